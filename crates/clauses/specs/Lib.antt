@@ -1,0 +1,5 @@
+pub mod Kinds
+pub mod Refusals
+pub mod Lines
+pub mod Literals
+pub mod Rules

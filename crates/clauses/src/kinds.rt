@@ -1,0 +1,38 @@
+// The six kinds of lines, and which of a system's moves a line speaks of.
+ghost use mathlib.Core.Path.{_≡_};
+ghost use Rattle.clauses.specs.Kinds.{kindOf};
+
+// Every move, or the move of one index.
+#[derive(Clone, Copy, PartialEq, Eq)]
+pub enum Scope {
+    All,
+    Index(u8),
+}
+
+#[derive(Clone, Copy)]
+pub enum Kind {
+    Start,
+    Global,
+    Step(Scope),
+    Sometime(Scope),
+}
+
+impl Kind {
+    // The kind that a number and an index name where there are `indices` indices.
+    pub fn named(number: u8, index: u8, indices: u8) -> Option<Kind>
+        ensures { λ r. ⌜ r ≡ kindOf number index indices ⌝ }
+    {
+        if index >= indices {
+            return None;
+        }
+        match (number, index) {
+            (1, 0) => Some(Kind::Start),
+            (2, 0) => Some(Kind::Global),
+            (3, 0) => Some(Kind::Step(Scope::All)),
+            (4, _) => Some(Kind::Step(Scope::Index(index))),
+            (5, 0) => Some(Kind::Sometime(Scope::All)),
+            (6, _) => Some(Kind::Sometime(Scope::Index(index))),
+            _ => None,
+        }
+    }
+}

@@ -1,0 +1,95 @@
+// From the bytes of one field to what they show.
+ghost use mathlib.Core.Path.{_≡_};
+ghost use mathlib.Core.List.{_++_};
+ghost use Prim.Native.Nat.{_+_, _≤_};
+ghost use lib.ListN.{length, drop};
+ghost use Rattle.std.specs.Options.{mapped};
+ghost use Rattle.std.specs.Slices.{found};
+ghost use Rattle.std.specs.Vec.{made};
+ghost use Rattle.fields.specs.Shown.{shownOf, Short, written};
+ghost use Rattle.fields.specs.declared.shapes.Source.the-variants.{Book};
+ghost use Rattle.fields.specs.Layouts.{split, counted, beginOf, ruleOf, layout, placed, toldFlaw};
+use crate::flaws::Flaw;
+use crate::shapes::Field;
+use crate::shapes::Source;
+
+// The tag and the value of the field that the bytes begin with, where it is whole.
+pub(crate) fn split_field(bytes: &[u8]) -> Option<(u8, &[u8])>
+    ensures value { λ r. ⌜ mapped (λ p. (p .0, now (p .1))) r ≡ split (now (bytes .entry)) ⌝ }
+    ensures front { λ r. ⌜ found r (λ p. now (bytes .entry) ≡ written (p .0) (now (p .1)) ++ drop (3 + length (now (p .1))) (now (bytes .entry))) ⌝ }
+{
+    let [tag, high, low, rest @ ..] = bytes else {
+        return None;
+    };
+    let length = u16::from_be_bytes([*high, *low]);
+    let (value, _) = rest.split_at_checked(length as usize)?;
+    Some((*tag, value))
+}
+
+// The side that the bytes begin with, two bytes for each counted literal, and what follows it.
+fn counted(bytes: &[u8]) -> Option<(&[u8], &[u8])>
+    ensures value { λ r. ⌜ mapped (λ p. (now (p .0), now (p .1))) r ≡ counted (now (bytes .entry)) ⌝ }
+    ensures short { λ r. ⌜ found r (λ p. length (now (p .0)) ≤ 510) ⌝ }
+{
+    let [count, rest @ ..] = bytes else {
+        return None;
+    };
+    rest.split_at_checked(2 * (*count as usize))
+}
+
+// A begin: one byte, the count of indices.
+fn begin_field(value: &[u8]) -> Option<Field<'_>>
+    ensures value { λ r. ⌜ mapped shownOf r ≡ beginOf (now (value .entry)) ⌝ }
+    ensures short { λ r. ⌜ found r (λ f. Short (shownOf f)) ⌝ }
+{
+    let [indices] = value else {
+        return None;
+    };
+    Some(Field::Begin { indices: *indices })
+}
+
+// A rule: kind, index, left and right, and nothing after.
+fn rule_field(value: &[u8]) -> Option<Field<'_>>
+    ensures value { λ r. ⌜ mapped shownOf r ≡ ruleOf (now (value .entry)) ⌝ }
+    ensures short { λ r. ⌜ found r (λ f. Short (shownOf f)) ⌝ }
+{
+    let [kind, index, sides @ ..] = value else {
+        return None;
+    };
+    let (left, after) = counted(sides)?;
+    let (right, rest) = counted(after)?;
+    if !rest.is_empty() {
+        return None;
+    }
+    Some(Field::Rule { kind: *kind, index: *index, left, right })
+}
+
+// The field of a book by its tag; a begin stands first, and nowhere else.
+fn book_field(offset: usize, tag: u8, value: &[u8]) -> Result<Field<'_>, Flaw>
+    ensures value { λ r. ⌜ toldFlaw r ≡ placed Book offset (layout Book tag (now (value .entry))) ⌝ }
+    ensures short { λ r. ⌜ made r (λ f. Short (shownOf f)) ⌝ }
+{
+    let shown = match tag {
+        1 => begin_field(value),
+        2 => rule_field(value),
+        _ => return Err(Flaw::UnknownTag),
+    };
+    let Some(field) = shown else {
+        return Err(Flaw::WrongLength);
+    };
+    if (tag == 1) != (offset == 0) {
+        return Err(Flaw::MisplacedBegin);
+    }
+    Ok(field)
+}
+
+// The field of a tag and a value at an offset of a file; no tag of a work is known yet.
+pub(crate) fn field_of(source: Source, offset: usize, tag: u8, value: &[u8]) -> Result<Field<'_>, Flaw>
+    ensures value { λ r. ⌜ toldFlaw r ≡ placed source offset (layout source tag (now (value .entry))) ⌝ }
+    ensures short { λ r. ⌜ made r (λ f. Short (shownOf f)) ⌝ }
+{
+    match source {
+        Source::Book => book_field(offset, tag, value),
+        Source::Work { .. } => Err(Flaw::UnknownTag),
+    }
+}

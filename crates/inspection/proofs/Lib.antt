@@ -1,0 +1,4 @@
+pub mod Adding
+pub mod Given
+pub mod Lowest
+pub mod Overlays

@@ -1,0 +1,4 @@
+pub mod Ascending
+pub mod Holding
+pub mod Pairing
+pub mod Uniting

@@ -1,0 +1,4 @@
+pub mod Going
+pub mod Reading
+pub mod Stepping
+pub mod Taking

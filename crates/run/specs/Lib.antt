@@ -1,0 +1,6 @@
+pub mod Parts
+pub mod Files
+pub mod Faults
+pub mod Runs
+pub mod Steps
+pub mod Text
