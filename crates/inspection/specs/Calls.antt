@@ -1,9 +1,10 @@
 -- The calls, what stands against each in order, what each answers and what it leaves. Assumes nothing.
+use mathlib.Core.Path.{_≡_}
 use mathlib.Core.Bool.{Bool, true, false, cond, not, _&&_, _||_}
 use mathlib.Core.List.{List, [], _∷_, _++_}
-use Prim.Native.Nat.{ℕ, _+_}
+use Prim.Native.Nat.{ℕ, _+_, _<_}
 use lib.Dec.{leb}
-use lib.ListN.{length}
+use lib.ListN.{length, getD}
 use Rattle.std.specs.declared.option.Option.{Option}
 use Rattle.std.specs.declared.option.Option.the-variants.{None, Some}
 use Rattle.std.specs.declared.result.Result.{Result}
@@ -11,7 +12,7 @@ use Rattle.std.specs.declared.result.Result.the-variants.{Ok, Err}
 use Rattle.clauses.specs.declared.lines.Line.{Line}
 use Rattle.clauses.specs.declared.literals.Literal.{Literal}
 use Rattle.clauses.specs.declared.refusals.Refusal.{Refusal}
-use Rattle.clauses.specs.Lines.{refutes}
+use Rattle.clauses.specs.Lines.{refutes, blank}
 use Rattle.clauses.specs.Refusals.{Cause, firstOf, numberOf}
 use Rattle.clauses.specs.Rules.{ruleCauses, ruleLine}
 use Rattle.inspection.specs.declared.verdicts.Verdict.{Verdict}
@@ -97,3 +98,8 @@ toldLine (Err e) = refused (numberOf e)
 abbrev pub toldVerdict : Verdict → Answer
 toldVerdict (Impossible n) = impossible n
 toldVerdict Undecided = undecided
+
+-- the verdict on these lines in other words: the line that it names refutes and none before it does, or none does
+abbrev pub Lowest : List Line → Verdict → Type 0
+Lowest xs (Impossible n) = (n < length xs) × (refutes (getD xs n blank) ≡ true) × ((k : ℕ) → k < n → refutes (getD xs k blank) ≡ false)
+Lowest xs Undecided = (k : ℕ) → k < length xs → refutes (getD xs k blank) ≡ false

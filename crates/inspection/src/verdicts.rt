@@ -1,6 +1,6 @@
 // What the lines made so far say of the book.
 ghost use mathlib.Core.Path.{_≡_};
-ghost use Rattle.inspection.specs.Calls.{Call, answer, toldVerdict};
+ghost use Rattle.inspection.specs.Calls.{Call, Lowest, answer, toldVerdict};
 ghost use Rattle.inspection.specs.Models.{modelOf};
 use crate::state::Inspection;
 
@@ -12,8 +12,10 @@ pub enum Verdict {
 }
 
 impl<'a> Inspection<'a> {
+    // Whether some line shows that no system keeps the rules.
     pub fn verdict(&self) -> Verdict
-        ensures { λ r. ⌜ toldVerdict r ≡ answer (modelOf (now (self .entry))) Call.verdict ⌝ }
+        ensures answer { λ r. ⌜ toldVerdict r ≡ answer (modelOf (now (self .entry))) Call.verdict ⌝ }
+        ensures lowest { λ r. ⌜ Lowest (modelOf (now (self .entry)) .lines) r ⌝ }
     {
         let lines = &*self.lines;
         for i in 0..self.made {

@@ -3,9 +3,11 @@ ghost use mathlib.Core.Path.{_≡_};
 ghost use Prim.Native.Nat.{_≤_, _<_};
 ghost use denote.Ref.{name};
 ghost use lib.ListN.{length};
+ghost use Rattle.std.specs.Vec.{refused};
 ghost use Rattle.fields.specs.declared.shapes.Source.the-variants as source;
 ghost use Rattle.inspection.specs.Calls.{after, answer, toldLine};
 ghost use Rattle.inspection.specs.Models.{modelOf, overlay};
+ghost use Rattle.run.specs.declared.faults.File.the-variants as file;
 ghost use Rattle.run.specs.Runs.{ruleCall};
 ghost use Rattle.run.specs.Steps.{AllRules, Begun, Goes, OneRule};
 use clauses::Line;
@@ -63,6 +65,7 @@ pub(crate) fn take_rules(reader: &mut Reader, inspection: &mut Inspection) -> Re
     requires book { ⌜ now reader .source ≡ source.Book ⌝ }
     requires begun { ⌜ 0 < now reader .place ⌝ }
     requires within { ⌜ now reader .place ≤ length (now (now reader .bytes)) ⌝ }
+    ensures file { λ r. ⌜ refused r (λ fault. fault .file ≡ file.Book) ⌝ }
     ensures rules { λ r. ⌜ AllRules r (now (reader .entry)) (modelOf (now (inspection .entry))) (modelOf (now (inspection .exit))) ⌝ }
     ensures table { λ _. ⌜ now (inspection .exit) .lines .now ≡ overlay (modelOf (now (inspection .exit)) .lines) (now (inspection .entry) .lines .now) ⌝ }
     ensures lent { λ _. ⌜ name (now (inspection .exit) .lines) ≡ name (now (inspection .entry) .lines) ⌝ }

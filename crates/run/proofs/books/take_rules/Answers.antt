@@ -1,4 +1,4 @@
-use mathlib.Core.Path.{sym, ap, subst, _∙_}
+use mathlib.Core.Path.{refl, sym, ap, subst, _∙_}
 use lib.ListN.{length}
 use Rattle.std.specs.declared.result.Result.the-variants.{Ok}
 use Rattle.inspection.specs.Models.{modelOf}
@@ -27,6 +27,7 @@ returns-in-rest c =
     let h = c .loop-taken .inv in
     let step = subst (λ o. OneRule (Ok o) r (modelOf (c .loop-taken .inspection)) (c .next-rule .last .reader) (modelOf (c .next-rule .last .inspection))) (c .in-rest .is) (next .step) in
     record {
+      file = tt;
       rules = ends h _ (λ k. step k (c .loop-taken .count));
       table = laid h (c .next-rule .last .inspection) (next .grows) (next .table);
       lent = next .lent ∙ h .lent;
@@ -37,6 +38,7 @@ returns-in-Err c =
     let next = c .in-Err .ensures tt in
     let h = c .loop-taken .inv in
     record {
+      file = refl;
       rules = ends h _ (λ k. next .step k (c .loop-taken .count) ∙ ap (stopped (modelOf (c .next-rule .last .inspection) .lines) (refusedNumber (c .in-Err .refused))) (sym (c .place-offset .ensures)));
       table = laid h (c .next-rule .last .inspection) (next .grows) (next .table);
       lent = next .lent ∙ h .lent;

@@ -32,4 +32,4 @@ returns-in-Ok c =
     let h = c .loop-text .inv in
     let m = modelOf (c .args .inspection .now) in
     let last = over h (only-end (m .indices) (c .loop-text .reader) _ _ (h .file) (c .in-Ok .ensures tt .value)) in
-    made-weaker (c .write-verdict .result) _ _ (λ _ e. e ∙ ap (λ a. string-bytes (c .loop-text .text) ++ verdictText a) (c .verdict .ensures) ∙ last) (c .write-verdict .ensures)
+    made-weaker (c .write-verdict .result) _ _ (λ _ e. e ∙ ap (λ a. string-bytes (c .loop-text .text) ++ verdictText a) (c .verdict .ensures .answer) ∙ last) (c .write-verdict .ensures)
