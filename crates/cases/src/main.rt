@@ -1,5 +1,6 @@
 // Books whose report is known by hand: each is named, and its report printed.
 use clauses::Line;
+use clauses::Side;
 use run::report;
 use std::alloc::AllocError;
 use std::alloc::Global;
@@ -46,17 +47,25 @@ fn nine(heap: Global) -> Result<Vec<u8>, AllocError> {
     Ok(book)
 }
 
-// The literals of the lines that nine rules leave in the table.
-fn show_nine(rt: &LibcRuntime) -> Result<(), AnyError> {
+fn show_side(rt: &LibcRuntime, name: &str, side: &Side) -> Result<(), AnyError> {
+    print!(rt, " {name}")?;
+    for literal in side.literals() {
+        let number = literal.0;
+        print!(rt, " {number}")?;
+    }
+    Ok(())
+}
+
+// The same, and both sides of the first lines of the table.
+fn show_lines(rt: &LibcRuntime, name: &str, book: &[u8], work: &[u8], count: usize) -> Result<(), AnyError> {
     let mut lines = table(rt.alloc())?;
-    let book = nine(rt.alloc())?;
-    let text = report(rt.alloc(), Some(book.as_slice()), Some(&[]), lines.as_mut_slice())?;
+    let text = report(rt.alloc(), Some(book), Some(work), lines.as_mut_slice())?;
+    println!(rt, "{name}:")?;
     rt.print(text)?;
-    for line in lines.iter().take(10) {
-        for literal in line.right.literals() {
-            let number = literal.0;
-            println!(rt, "literal {number}")?;
-        }
+    for line in lines.iter().take(count) {
+        show_side(rt, "left", &line.left)?;
+        show_side(rt, "right", &line.right)?;
+        rt.println("")?;
     }
     Ok(())
 }
@@ -96,6 +105,18 @@ const RULES: [Case; 12] = [
     ("an empty step", &[1, 0, 1, 1, 2, 0, 4, 3, 0, 0, 0], &[]),
 ];
 
+// What the steps ask.
+const STEPS: [Case; 8] = [
+    ("a contradiction", &[1, 0, 1, 1, 2, 0, 6, 1, 0, 0, 1, 0, 0, 2, 0, 8, 3, 0, 1, 0, 0, 1, 0, 2, 2, 0, 8, 4, 0, 1, 0, 0, 1, 0, 3], &[3, 0, 6, 0, 1, 0, 2, 0, 2, 4, 0, 2, 0, 3, 3, 0, 6, 0, 0, 0, 4, 0, 0]),
+    ("a line that isn't there", &[1, 0, 1, 1, 2, 0, 6, 1, 0, 0, 1, 0, 0, 2, 0, 8, 3, 0, 1, 0, 0, 1, 0, 2, 2, 0, 8, 4, 0, 1, 0, 0, 1, 0, 3], &[3, 0, 6, 0, 0, 0, 3, 0, 0, 4, 0, 2, 0, 3, 5, 0, 2, 0, 9, 6, 0, 2, 255, 255]),
+    ("steps of two indices", &[1, 0, 1, 4, 2, 0, 6, 4, 2, 0, 1, 0, 0, 2, 0, 6, 4, 3, 0, 1, 0, 1], &[3, 0, 6, 0, 0, 0, 1, 0, 0]),
+    ("kinds that misfit", &[1, 0, 1, 1, 2, 0, 6, 1, 0, 0, 1, 0, 0, 2, 0, 8, 3, 0, 1, 0, 0, 1, 0, 2, 2, 0, 8, 4, 0, 1, 0, 0, 1, 0, 3], &[3, 0, 6, 0, 0, 0, 1, 0, 0, 4, 0, 2, 0, 0, 5, 0, 2, 0, 1, 6, 0, 2, 0, 0]),
+    ("a literal that isn't there", &[1, 0, 1, 1, 2, 0, 6, 1, 0, 0, 1, 0, 0, 2, 0, 8, 3, 0, 1, 0, 0, 1, 0, 2, 2, 0, 8, 4, 0, 1, 0, 0, 1, 0, 3], &[3, 0, 6, 0, 1, 0, 2, 0, 0, 3, 0, 6, 0, 1, 0, 2, 0, 3]),
+    ("a right side that isn't empty", &[1, 0, 1, 1, 2, 0, 8, 3, 0, 2, 0, 2, 0, 5, 0, 2, 0, 8, 3, 0, 1, 0, 2, 1, 0, 0], &[4, 0, 2, 0, 1]),
+    ("sides of 16 and 17", &[1, 0, 1, 1, 2, 0, 22, 2, 0, 0, 9, 0, 0, 0, 10, 0, 12, 0, 14, 0, 16, 0, 18, 0, 20, 0, 22, 0, 24, 2, 0, 22, 2, 0, 0, 9, 0, 1, 0, 100, 0, 102, 0, 104, 0, 106, 0, 108, 0, 110, 0, 112, 0, 114, 2, 0, 24, 2, 0, 0, 10, 0, 1, 0, 100, 0, 102, 0, 104, 0, 106, 0, 108, 0, 110, 0, 112, 0, 114, 0, 116], &[3, 0, 6, 0, 0, 0, 1, 0, 0, 3, 0, 6, 0, 0, 0, 2, 0, 0]),
+    ("a length that isn't the layout's", &[1, 0, 1, 1, 2, 0, 6, 1, 0, 0, 1, 0, 0, 2, 0, 8, 3, 0, 1, 0, 0, 1, 0, 2, 2, 0, 8, 4, 0, 1, 0, 0, 1, 0, 3], &[3, 0, 4, 0, 1, 0, 2, 4, 0, 0, 7, 0, 2, 0, 1]),
+];
+
 fn show_all(rt: &LibcRuntime, cases: &[Case]) -> Result<(), AnyError> {
     for (name, book, work) in cases {
         show(rt, name, book, work)?;
@@ -103,13 +124,28 @@ fn show_all(rt: &LibcRuntime, cases: &[Case]) -> Result<(), AnyError> {
     Ok(())
 }
 
+// A table that is full: every step is refused, by 18 where nothing else stands against it.
+fn show_full(rt: &LibcRuntime) -> Result<(), AnyError> {
+    let mut book = rules(rt.alloc(), 511)?;
+    book.extend_from_slice(&[2, 0, 6, 1, 0, 0, 1, 0, 1])?;
+    show(rt, "512 rules, and one line more", book.as_slice(), &[3, 0, 6, 0, 0, 1, 255, 0, 0, 4, 0, 2, 0, 0])?;
+    let over = rules(rt.alloc(), 513)?;
+    show(rt, "513 rules", over.as_slice(), &[])
+}
+
+// A sometime rule with the left 2 and the goal 0.
+const SOMETIME: [u8; 15] = [1, 0, 1, 1, 2, 0, 8, 5, 0, 1, 0, 2, 1, 0, 0];
+
+// Steps with the lefts 2, 5 and 2, and nothing on the right.
+const EMPTY_STEPS: [u8; 24] = [1, 0, 1, 1, 2, 0, 8, 3, 0, 2, 0, 2, 0, 5, 0, 2, 0, 6, 3, 0, 1, 0, 2, 0];
+
 fn main(rt: LibcRuntime) -> Result<(), AnyError> {
     show_all(&rt, &FIELDS)?;
     show_all(&rt, &RULES)?;
-    let full = rules(rt.alloc(), 512)?;
-    show(&rt, "512 rules", full.as_slice(), &[])?;
-    let over = rules(rt.alloc(), 513)?;
-    show(&rt, "513 rules", over.as_slice(), &[])?;
-    rt.println("nine rules:")?;
-    show_nine(&rt)
+    show_all(&rt, &STEPS)?;
+    show_full(&rt)?;
+    let book = nine(rt.alloc())?;
+    show_lines(&rt, "nine rules", book.as_slice(), &[], 10)?;
+    show_lines(&rt, "enter and stay", &SOMETIME, &[5, 0, 2, 0, 0, 6, 0, 2, 0, 0], 4)?;
+    show_lines(&rt, "rewritten lefts", &EMPTY_STEPS, &[4, 0, 2, 0, 0, 4, 0, 2, 0, 1], 5)
 }

@@ -5,7 +5,7 @@ use Prim.Native.Nat.{ℕ}
 use Rattle.std.specs.declared.option.Option.{Option}
 use Rattle.std.specs.declared.option.Option.the-variants.{None, Some}
 use Rattle.clauses.specs.declared.refusals.Refusal.{Refusal}
-use Rattle.clauses.specs.declared.refusals.Refusal.the-variants.{IndexCount, TableSize, KindOrIndex, LiteralRange, NotAscending, WrongShape, SideTooLong, NothingLeft}
+use Rattle.clauses.specs.declared.refusals.Refusal.the-variants.{IndexCount, TableSize, KindOrIndex, LiteralRange, NotAscending, WrongShape, SideTooLong, NotThere, Misfit, LiteralMissing, LoopEnded, NewSideTooLong, NothingLeft}
 
 abbrev pub numberOf : Refusal → ℕ
 numberOf IndexCount = 5
@@ -15,6 +15,11 @@ numberOf LiteralRange = 8
 numberOf NotAscending = 9
 numberOf WrongShape = 10
 numberOf SideTooLong = 11
+numberOf NotThere = 12
+numberOf Misfit = 13
+numberOf LiteralMissing = 14
+numberOf LoopEnded = 15
+numberOf NewSideTooLong = 17
 numberOf NothingLeft = 18
 
 -- a cause: its number, and whether it holds

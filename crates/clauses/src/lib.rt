@@ -4,6 +4,8 @@ pub mod lines;
 pub mod literals;
 pub mod refusals;
 pub mod rules;
+mod sides;
+pub mod steps;
 
 pub use kinds::Kind;
 pub use kinds::Scope;

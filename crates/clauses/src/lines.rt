@@ -1,5 +1,7 @@
 // Sides and lines.
 ghost use mathlib.Core.Path.{_≡_};
+ghost use Prim.Native.Nat.{_≤_};
+ghost use lib.ListN.{length};
 ghost use Rattle.clauses.specs.Lines.{literals, refutes, sideFor};
 use crate::kinds::Kind;
 use crate::literals::Literal;
@@ -10,8 +12,8 @@ pub const PLACES: usize = 16;
 // A side: `count` literals at the front, and 0 in the places beyond.
 #[derive(Clone, Copy)]
 pub struct Side {
-    count: u8,
-    places: [Literal; 16],
+    pub(crate) count: u8,
+    pub(crate) places: [Literal; 16],
 }
 
 // A line of the table: a rule where it is marked, and of the loop that it belongs to, if any.
@@ -25,6 +27,8 @@ pub struct Line {
 }
 
 impl Side {
+    pub(crate) const EMPTY: Side = Side { count: 0, places: [Literal(0); 16] };
+
     // The side of these literals, where they fit.
     pub fn of(items: &[Literal]) -> Option<Side>
         ensures { λ r. ⌜ r ≡ sideFor (now (items .entry)) ⌝ }
@@ -39,7 +43,8 @@ impl Side {
     }
 
     pub fn literals(&self) -> &[Literal]
-        ensures { λ r. ⌜ now r ≡ literals (now (self .entry)) ⌝ }
+        ensures value { λ r. ⌜ now r ≡ literals (now (self .entry)) ⌝ }
+        ensures short { λ r. ⌜ length (now r) ≤ 16 ⌝ }
     {
         let n = (self.count as usize).min(PLACES);
         &self.places[0..n]
@@ -50,8 +55,8 @@ impl Line {
     // A line to fill a new table with.
     pub const BLANK: Line = Line {
         kind: Kind::Start,
-        left: Side { count: 0, places: [Literal(0); 16] },
-        right: Side { count: 0, places: [Literal(0); 16] },
+        left: Side::EMPTY,
+        right: Side::EMPTY,
         mark: false,
         belongs: None,
     };

@@ -11,6 +11,11 @@ pub enum Refusal {
     NotAscending,
     WrongShape,
     SideTooLong,
+    NotThere,
+    Misfit,
+    LiteralMissing,
+    LoopEnded,
+    NewSideTooLong,
     NothingLeft,
 }
 
@@ -27,6 +32,11 @@ impl Refusal {
             Refusal::NotAscending => 9,
             Refusal::WrongShape => 10,
             Refusal::SideTooLong => 11,
+            Refusal::NotThere => 12,
+            Refusal::Misfit => 13,
+            Refusal::LiteralMissing => 14,
+            Refusal::LoopEnded => 15,
+            Refusal::NewSideTooLong => 17,
             Refusal::NothingLeft => 18,
         }
     }

@@ -1,17 +1,19 @@
 -- The parts of a field's bytes, as the code takes them. Assumes nothing.
 use mathlib.Core.Path.{_≡_, refl, ap, sym, _∙_}
 use mathlib.Core.Bool.{cond}
-use mathlib.Core.List.{List, [], _∷_}
-use Prim.Native.Nat.{ℕ, _+_, _*_, _≤_, _<_}
+use mathlib.Core.List.{List, [], _∷_, _++_}
+use Prim.Native.Nat.{ℕ, _+_, _*_, _/_, _%_, _≤_, _<_}
 use native.Mathlib.Omega.{arith}
 use denote.Ref.{RefT}
 use lib.ListN.{length, getD, take, drop}
+use Rattle.std.proofs.shelf.Lists.{drop-all, drop-more}
 use Rattle.std.proofs.shelf.Tests.{le-leb, lt-leb}
 use Rattle.std.specs.Slices.{found}
 use Rattle.std.specs.Options.{mapped, Cases}
 use Rattle.std.specs.declared.option.Option.{Option}
 use Rattle.std.specs.declared.option.Option.the-variants.{None, Some}
-use Rattle.fields.specs.Layouts.{andThen, cut, split, counted, ends, ruleOf}
+use Rattle.fields.specs.Shown.{numberBytes, resolveBytes}
+use Rattle.fields.specs.Layouts.{andThen, cut, split, counted, ends, ruleOf, numberAt}
 
 -- what a cut at n gives where there are so many bytes
 abbrev pub Apart : ℕ → List ℕ → RefT (List ℕ) × RefT (List ℕ) → Type 0
@@ -55,3 +57,21 @@ module _ (bs : List ℕ) (some : 2 ≤ length bs) (left after : List ℕ) (first
 
   pub both : (right rest : List ℕ) → Some (right, rest) ≡ counted after → ends (getD bs 0 0) (getD bs 1 0) left (right, rest) ≡ ruleOf bs
   both right rest h = ap (λ o. andThen o (ends (getD bs 0 0) (getD bs 1 0) left)) h ∙ rest-is
+
+-- the bytes from a place on begin with those of the number there
+number-part : (v : List ℕ) (p : ℕ) → p + 2 ≤ length v → getD v (p + 1) 0 < 256 → drop p v ≡ numberBytes (numberAt v p) ++ drop (p + 2) v
+number-part v p some low =
+    let high : getD v p 0 ≡ numberAt v p / 256 = omega arith in
+    let under : getD v (p + 1) 0 ≡ numberAt v p % 256 = omega arith in
+    let past : p + 1 + 1 ≡ p + 2 = omega arith in
+    let two = drop-more v p 0 (omega arith) ∙ ap (λ xs. getD v p 0 ∷ xs) (drop-more v (p + 1) 0 (omega arith)) in
+    two ∙ (λ i. high i ∷ under i ∷ drop (past i) v)
+
+pub line-part : (v : List ℕ) → length v ≡ 2 → getD v 1 0 < 256 → v ≡ numberBytes (numberAt v 0)
+line-part v two low = number-part v 0 (omega arith) low ∙ ap (λ xs. numberBytes (numberAt v 0) ++ xs) (drop-all 2 v (omega arith))
+
+pub resolve-part : (v : List ℕ) → length v ≡ 6 → getD v 1 0 < 256 → getD v 3 0 < 256 → getD v 5 0 < 256 → v ≡ resolveBytes (numberAt v 0) (numberAt v 2) (numberAt v 4)
+resolve-part v six a b l =
+    let last = number-part v 4 (omega arith) l ∙ ap (λ xs. numberBytes (numberAt v 4) ++ xs) (drop-all 6 v (omega arith)) in
+    let rest = number-part v 2 (omega arith) b ∙ ap (λ xs. numberBytes (numberAt v 2) ++ xs) last in
+    number-part v 0 (omega arith) a ∙ ap (λ xs. numberBytes (numberAt v 0) ++ xs) rest

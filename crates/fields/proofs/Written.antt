@@ -14,11 +14,14 @@ use Rattle.std.specs.declared.option.Option.the-variants.{None, Some}
 use Rattle.std.specs.declared.result.Result.{Result}
 use Rattle.std.specs.declared.result.Result.the-variants.{Ok, Err}
 use Rattle.std.specs.Options.{mapped}
+use Rattle.std.specs.Vec.{made}
+use Rattle.fields.specs.declared.flaws.Flaw.{Flaw}
+use Rattle.fields.specs.declared.shapes.Field.{Field}
 use Rattle.fields.specs.declared.shapes.Source.{Source}
 use Rattle.fields.specs.declared.shapes.Source.the-variants.{Book, Work}
-use Rattle.fields.specs.Shown.{Shown, begin, rule, tagOf, valueOf, sideBytes, written, bytesOf, Paired, Even}
-use Rattle.fields.specs.Layouts.{andThen, cut, split, counted, ends, beginOf, ruleOf, orLength, layout, stands, placed}
-use Rattle.fields.specs.Parse.{shows, refuses, fieldAt, withPlace, atEnd, parse}
+use Rattle.fields.specs.Shown.{Shown, begin, rule, resolve, rewrite, enter, stay, shownOf, tagOf, valueOf, sideBytes, written, bytesOf, Says, Paired, Fitting}
+use Rattle.fields.specs.Layouts.{andThen, cut, split, counted, ends, beginOf, ruleOf, orLength, bookLayout, layout, stands, placed, toldFlaw}
+use Rattle.fields.specs.Parse.{Parsed, shows, refuses, fieldAt, withPlace, atEnd, parse}
 
 -- where a test gives something, the test was true
 cond-some : {X : Type 0} (b : Bool) (x y : X) → Some y ≡ cond b (Some x) None → (b ≡ true) × (y ≡ x)
@@ -78,10 +81,7 @@ counted-sound (n ∷ bs) l r e =
 counted-side : (l r : List ℕ) → Paired l → counted (sideBytes l ++ r) ≡ Some (l, r)
 counted-side l r p = cut-at (2 * (length l / 2)) l r (omega (arith, p .1))
 
--- a tag and a value are those of a field
-abbrev Says : Shown → ℕ → List ℕ → Type 0
-Says f t v = (t ≡ tagOf f) × (v ≡ valueOf f)
-
+-- the layouts of a book
 begin-sound : (v : List ℕ) (f : Shown) → Some f ≡ beginOf v → Says f 1 v
 begin-sound [] f e = let z : _≡_ {A = ℕ} 0 1 = cc in absurd (omega arith)
 begin-sound (k ∷ []) f e = let g : begin k ≡ f = cc in subst (λ h. Says h 1 (k ∷ [])) g (refl, refl)
@@ -106,13 +106,12 @@ rule-value k i l r el er =
     let right : counted (sideBytes r) ≡ Some (r, []) = ap counted (sym (append-nil (sideBytes r))) ∙ counted-side r [] er in
     ap (λ o. andThen o (λ x. andThen (counted (x .1)) (ends k i (x .0)))) (counted-side l (sideBytes r) el) ∙ ap (λ o. andThen o (ends k i l)) right
 
--- the layouts
 length-sound : (o : Option Shown) (f : Shown) → Ok f ≡ orLength o → Some f ≡ o
 length-sound None f e = let z : _≡_ {A = ℕ} 0 1 = cc in absurd (omega arith)
 length-sound (Some g) f e = cc
 
-layout-sound : (s : Source) (t : ℕ) (v : List ℕ) (f : Shown) → Ok f ≡ layout s t v → Says f t v
-layout-sound Book t v f e =
+layout-sound : (t : ℕ) (v : List ℕ) (f : Shown) → Ok f ≡ bookLayout t v → Says f t v
+layout-sound t v f e =
     ⊎-elim
     (λ (one : eqb t 1 ≡ true). subst (λ x. Says f x v) (sym (eqb-true t 1 one)) (begin-sound v f (length-sound _ f (e ∙ ap (λ b. cond b (orLength (beginOf v)) (cond (eqb t 2) (orLength (ruleOf v)) (Err 2))) one))))
     (λ (other : eqb t 1 ≡ false).
@@ -122,26 +121,37 @@ layout-sound Book t v f e =
     (λ (none : eqb t 2 ≡ false). let e3 : Ok f ≡ Err 2 = e2 ∙ ap (λ b. cond b (orLength (ruleOf v)) (Err 2)) none in let z : _≡_ {A = ℕ} 0 1 = cc in absurd (omega arith))
     (cases-bool (eqb t 2)))
     (cases-bool (eqb t 1))
-layout-sound (Work k) t v f e = let z : _≡_ {A = ℕ} 0 1 = cc in absurd (omega arith)
 
-placed-sound : (s : Source) (p : ℕ) (x : Result Shown ℕ) (f : Shown) → Ok f ≡ placed s p x → Ok f ≡ x
-placed-sound s p (Ok g) f e =
+placed-sound : (p : ℕ) (x : Result Shown ℕ) (f : Shown) → Ok f ≡ placed Book p x → Ok f ≡ x
+placed-sound p (Ok g) f e =
     ⊎-elim
-    (λ (may : stands s p g ≡ true). e ∙ ap (λ b. cond b (Ok g) (Err 4)) may)
-    (λ (not : stands s p g ≡ false). let e2 : Ok f ≡ Err 4 = e ∙ ap (λ b. cond b (Ok g) (Err 4)) not in let z : _≡_ {A = ℕ} 0 1 = cc in absurd (omega arith))
-    (cases-bool (stands s p g))
-placed-sound s p (Err n) f e = let z : _≡_ {A = ℕ} 0 1 = cc in absurd (omega arith)
+    (λ (may : stands Book p g ≡ true). e ∙ ap (λ b. cond b (Ok g) (Err 4)) may)
+    (λ (not : stands Book p g ≡ false). let e2 : Ok f ≡ Err 4 = e ∙ ap (λ b. cond b (Ok g) (Err 4)) not in let z : _≡_ {A = ℕ} 0 1 = cc in absurd (omega arith))
+    (cases-bool (stands Book p g))
+placed-sound p (Err n) f e = let z : _≡_ {A = ℕ} 0 1 = cc in absurd (omega arith)
 
--- a shown field is written as its tag and its value
-pub field-sound : (s : Source) (p t : ℕ) (v : List ℕ) (f : Shown) → Ok f ≡ placed s p (layout s t v) → written t v ≡ bytesOf f
-field-sound s p t v f e =
-    let says = layout-sound s t v f (placed-sound s p (layout s t v) f e) in
-    λ i. written (says .0 i) (says .1 i)
+pub book-sound : (p t : ℕ) (v : List ℕ) (r : Result Field Flaw) → toldFlaw r ≡ placed Book p (bookLayout t v) → made r (λ f. Says (shownOf f) t v)
+book-sound p t v (Ok f) e = layout-sound t v (shownOf f) (placed-sound p (bookLayout t v) (shownOf f) e)
+book-sound p t v (Err flaw) e = tt
 
-layout-value : (s : Source) (p : ℕ) (f : Shown) → Even f → stands s p f ≡ true → placed s p (layout s (tagOf f) (valueOf f)) ≡ Ok f
-layout-value Book p (begin k) even may = ap (λ b. cond b (Ok (begin k)) (Err 4)) may
-layout-value Book p (rule k i l r) even may = ap (λ o. placed Book p (orLength o)) (rule-value k i l r (even .0) (even .1)) ∙ ap (λ b. cond b (Ok (rule k i l r)) (Err 4)) may
-layout-value (Work n) p f even may = absurd (false≢true may)
+-- the layouts of a work
+number-again : (n : ℕ) → n / 256 * 256 + n % 256 ≡ n
+number-again n = omega arith
+
+-- a field that may stand at a place is read from its tag and its value
+layout-value : (s : Source) (p : ℕ) (f : Shown) → Fitting f → stands s p f ≡ true → placed s p (layout s (tagOf f) (valueOf f)) ≡ Ok f
+layout-value Book p (begin k) fits may = ap (λ b. cond b (Ok (begin k)) (Err 4)) may
+layout-value Book p (rule k i l r) fits may = ap (λ o. placed Book p (orLength o)) (rule-value k i l r (fits .0) (fits .1)) ∙ ap (λ b. cond b (Ok (rule k i l r)) (Err 4)) may
+layout-value Book p (resolve a b l) fits may = absurd (false≢true may)
+layout-value Book p (rewrite n) fits may = absurd (false≢true may)
+layout-value Book p (enter n) fits may = absurd (false≢true may)
+layout-value Book p (stay n) fits may = absurd (false≢true may)
+layout-value (Work k) p (begin c) fits may = absurd (false≢true may)
+layout-value (Work k) p (rule c i l r) fits may = absurd (false≢true may)
+layout-value (Work k) p (resolve a b l) fits may = λ i. Ok (resolve (number-again a i) (number-again b i) (number-again l i))
+layout-value (Work k) p (rewrite n) fits may = ap (λ x. Ok (rewrite x)) (number-again n)
+layout-value (Work k) p (enter n) fits may = ap (λ x. Ok (enter x)) (number-again n)
+layout-value (Work k) p (stay n) fits may = ap (λ x. Ok (stay x)) (number-again n)
 
 -- what is read of a whole field, and of one that isn't
 pub parse-whole : (s : Source) (bs : List ℕ) (p t : ℕ) (v : List ℕ) (x : Result Shown ℕ) → p < length bs → Some (t, v) ≡ split (drop p bs) → x ≡ placed s p (layout s t v) → withPlace x (p + 3 + length v) ≡ parse s bs p
@@ -151,9 +161,19 @@ pub parse-broken : (s : Source) (bs : List ℕ) (p : ℕ) → p < length bs → 
 parse-broken s bs p inside parts = sym (λ i. cond (lt-ltb p (length bs) inside i) (fieldAt s (length bs) p (sym parts i)) (atEnd s p))
 
 -- what is written is read again
-pub parse-written : (s : Source) (bs : List ℕ) (p : ℕ) (f : Shown) (rest : List ℕ) → drop p bs ≡ bytesOf f ++ rest → Even f → stands s p f ≡ true → parse s bs p ≡ shows f (p + length (bytesOf f))
-parse-written s bs p f rest e even may =
+pub parse-written : (s : Source) (bs : List ℕ) (p : ℕ) (x : Parsed) → x ≡ parse s bs p → (f : Shown) (rest : List ℕ) → drop p bs ≡ bytesOf f ++ rest → Fitting f → stands s p f ≡ true → x ≡ shows f (p + length (bytesOf f))
+parse-written s bs p x is f rest e fits may =
     let inside : p < length bs = omega (arith, length-drop p bs, ap length e) in
     let past : p + 3 + length (valueOf f) ≡ p + length (bytesOf f) = omega arith in
     let parts = ap split e ∙ split-written (tagOf f) (valueOf f) rest in
-    (λ i. cond (lt-ltb p (length bs) inside i) (fieldAt s (length bs) p (parts i)) (atEnd s p)) ∙ (λ i. withPlace (layout-value s p f even may i) (past i))
+    is ∙ (λ i. cond (lt-ltb p (length bs) inside i) (fieldAt s (length bs) p (parts i)) (atEnd s p)) ∙ (λ i. withPlace (layout-value s p f fits may i) (past i))
+
+-- a field of a book that is shown may stand there
+pub placed-stands : (p : ℕ) (x : Result Shown ℕ) (r : Result Field Flaw) → toldFlaw r ≡ placed Book p x → made r (λ f. stands Book p (shownOf f) ≡ true)
+placed-stands p x (Err e) told = tt
+placed-stands p (Err n) (Ok f) told = let z : _≡_ {A = ℕ} 0 1 = cc in absurd (omega arith)
+placed-stands p (Ok g) (Ok f) told = by-test (stands Book p g) refl told
+  where
+    by-test : (b : Bool) → stands Book p g ≡ b → _≡_ {A = Result Shown ℕ} (Ok (shownOf f)) (cond b (Ok g) (Err 4)) → stands Book p (shownOf f) ≡ true
+    by-test true is h = let same : shownOf f ≡ g = cc in ap (stands Book p) same ∙ is
+    by-test false is h = let z : _≡_ {A = ℕ} 0 1 = cc in absurd (omega arith)

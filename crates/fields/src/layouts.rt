@@ -1,14 +1,16 @@
 // From the bytes of one field to what they show.
+ghost use mathlib.Core.Bool.{true};
 ghost use mathlib.Core.Path.{_≡_};
 ghost use mathlib.Core.List.{_++_};
 ghost use Prim.Native.Nat.{_+_, _≤_};
+ghost use lib.Dec.{leb};
 ghost use lib.ListN.{length, drop};
 ghost use Rattle.std.specs.Options.{mapped};
 ghost use Rattle.std.specs.Slices.{found};
 ghost use Rattle.std.specs.Vec.{made};
-ghost use Rattle.fields.specs.Shown.{shownOf, Short, written};
+ghost use Rattle.fields.specs.Shown.{tagOf, shownOf, Short, written, numberBytes, resolveBytes, Says};
 ghost use Rattle.fields.specs.declared.shapes.Source.the-variants.{Book};
-ghost use Rattle.fields.specs.Layouts.{split, counted, beginOf, ruleOf, layout, placed, toldFlaw};
+ghost use Rattle.fields.specs.Layouts.{stands, split, counted, beginOf, ruleOf, lineOf, resolveOf, layout, workLayout, placed, orWrong, toldFlaw};
 use crate::flaws::Flaw;
 use crate::shapes::Field;
 use crate::shapes::Source;
@@ -83,13 +85,59 @@ fn book_field(offset: usize, tag: u8, value: &[u8]) -> Result<Field<'_>, Flaw>
     Ok(field)
 }
 
-// The field of a tag and a value at an offset of a file; no tag of a work is known yet.
+// A resolve: the numbers of two lines and the literal, and nothing after.
+fn resolve_field(value: &[u8]) -> Result<(u16, u16, u16), Flaw>
+    ensures value { λ r. ⌜ r ≡ orWrong (resolveOf (now (value .entry))) ⌝ }
+    ensures sound { λ r. ⌜ made r (λ n. now (value .entry) ≡ resolveBytes (n .0) (n .1) (n .2)) ⌝ }
+{
+    let [a_high, a_low, b_high, b_low, l_high, l_low] = value else {
+        return Err(Flaw::WrongLength);
+    };
+    let a = u16::from_be_bytes([*a_high, *a_low]);
+    let b = u16::from_be_bytes([*b_high, *b_low]);
+    let literal = u16::from_be_bytes([*l_high, *l_low]);
+    Ok((a, b, literal))
+}
+
+// A field of one line: its number, and nothing after.
+fn line_field(value: &[u8]) -> Result<u16, Flaw>
+    ensures value { λ r. ⌜ r ≡ orWrong (lineOf (now (value .entry))) ⌝ }
+    ensures sound { λ r. ⌜ made r (λ n. now (value .entry) ≡ numberBytes n) ⌝ }
+{
+    let [high, low] = value else {
+        return Err(Flaw::WrongLength);
+    };
+    Ok(u16::from_be_bytes([*high, *low]))
+}
+
+// The field of a work by its tag; it may stand at any place.
+fn work_field(tag: u8, value: &[u8]) -> Result<Field<'_>, Flaw>
+    ensures value { λ r. ⌜ toldFlaw r ≡ workLayout tag (now (value .entry)) ⌝ }
+    ensures short { λ r. ⌜ made r (λ f. Short (shownOf f)) ⌝ }
+    ensures stands { λ r. ⌜ made r (λ f. leb 3 (tagOf (shownOf f)) ≡ true) ⌝ }
+    ensures sound { λ r. ⌜ made r (λ f. Says (shownOf f) tag (now (value .entry))) ⌝ }
+{
+    match tag {
+        3 => {
+            let (a, b, literal) = resolve_field(value)?;
+            Ok(Field::Resolve { a, b, literal })
+        }
+        4 => Ok(Field::Rewrite { line: line_field(value)? }),
+        5 => Ok(Field::Enter { line: line_field(value)? }),
+        6 => Ok(Field::Stay { line: line_field(value)? }),
+        _ => Err(Flaw::UnknownTag),
+    }
+}
+
+// The field of a tag and a value at an offset of a file.
 pub(crate) fn field_of(source: Source, offset: usize, tag: u8, value: &[u8]) -> Result<Field<'_>, Flaw>
     ensures value { λ r. ⌜ toldFlaw r ≡ placed source offset (layout source tag (now (value .entry))) ⌝ }
     ensures short { λ r. ⌜ made r (λ f. Short (shownOf f)) ⌝ }
+    ensures stands { λ r. ⌜ made r (λ f. stands source offset (shownOf f) ≡ true) ⌝ }
+    ensures sound { λ r. ⌜ made r (λ f. Says (shownOf f) tag (now (value .entry))) ⌝ }
 {
     match source {
         Source::Book => book_field(offset, tag, value),
-        Source::Work { .. } => Err(Flaw::UnknownTag),
+        Source::Work { .. } => work_field(tag, value),
     }
 }

@@ -4,7 +4,7 @@ ghost use mathlib.Core.Bool.{true};
 ghost use mathlib.Core.List.{List, _++_};
 ghost use Prim.Native.Nat.{ℕ, _+_};
 ghost use lib.ListN.{length};
-ghost use Rattle.fields.specs.Shown.{Shown, Short, bytesOf, Even};
+ghost use Rattle.fields.specs.Shown.{Shown, Short, bytesOf, Fitting};
 ghost use Rattle.fields.specs.Layouts.{stands};
 ghost use Rattle.fields.specs.Parse.{shows, told, placeAfter, Refuses, Shows};
 ghost use Rattle.fields.specs.Walk.{parsed, ahead, Moves};
@@ -47,8 +47,9 @@ impl<'a> Reader<'a> {
         ensures same { λ _. ⌜ now (now (self .exit) .bytes) ≡ now (now (self .entry) .bytes) ⌝ ∗ ⌜ now (self .exit) .source ≡ now (self .entry) .source ⌝ }
         ensures moves { λ r. ⌜ Moves (now (self .entry) .source) r (length (now (now (self .entry) .bytes))) (now (self .entry) .place) (now (self .exit) .place) ⌝ }
         ensures short { λ r. ⌜ Shows r Short ⌝ }
+        ensures stands { λ r. ⌜ Shows r (λ f. stands (now (self .entry) .source) (now (self .entry) .place) f ≡ true) ⌝ }
         ensures sound { λ r. ⌜ Shows r (λ f. ahead (now (self .entry)) ≡ bytesOf f ++ ahead (now (self .exit))) ⌝ }
-        ensures complete { λ r. ⌜ ((f : Shown) (rest : List ℕ) → ahead (now (self .entry)) ≡ bytesOf f ++ rest → Even f → stands (now (self .entry) .source) (now (self .entry) .place) f ≡ true → told r (now (self .exit) .place) ≡ shows f (now (self .entry) .place + length (bytesOf f))) ⌝ }
+        ensures complete { λ r. ⌜ ((f : Shown) (rest : List ℕ) → ahead (now (self .entry)) ≡ bytesOf f ++ rest → Fitting f → stands (now (self .entry) .source) (now (self .entry) .place) f ≡ true → told r (now (self .exit) .place) ≡ shows f (now (self .entry) .place + length (bytesOf f))) ⌝ }
     {
         let Reader { bytes, place, source } = self;
         let bytes = *bytes;

@@ -1,3 +1,4 @@
 pub mod Waits
+pub mod Lawful
 pub mod Models
 pub mod Calls

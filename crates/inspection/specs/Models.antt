@@ -10,7 +10,7 @@ use Rattle.inspection.specs.declared.waits.Wait.{Wait}
 use Rattle.inspection.specs.Waits.{givenOut}
 
 pub data Standing : Type 0 where
-  open′ : Standing
+  opened : Standing
   closed : Standing
   dropped : Standing
 

@@ -1,11 +1,12 @@
 -- What a sometime line waits for, and the waits given out. Assumes nothing.
 use mathlib.Core.Bool.{Bool, true, false, cond, not, _&&_, _||_}
 use mathlib.Core.List.{List, [], _∷_, _++_}
-use Prim.Native.Nat.{ℕ}
+use Prim.Native.Nat.{ℕ, suc}
 use lib.Dec.{eqb, leb}
 use lib.ListN.{length, take}
 use Rattle.std.specs.declared.option.Option.{Option}
 use Rattle.std.specs.declared.option.Option.the-variants.{None, Some}
+use Rattle.std.specs.Options.{mapped}
 use Rattle.clauses.specs.declared.kinds.Kind.{Kind}
 use Rattle.clauses.specs.declared.kinds.Kind.the-variants.{Start, Global, Step, Sometime}
 use Rattle.clauses.specs.declared.kinds.Scope.{Scope}
@@ -54,3 +55,13 @@ waitless ws (Some w) = not (held ws w) && leb 256 (length ws)
 abbrev pub admitted : List Wait → Option Wait → List Wait
 admitted ws None = ws
 admitted ws (Some w) = cond (held ws w) ws (ws ++ w ∷ [])
+
+-- where this one was given out
+abbrev pub placeOf : List Wait → Wait → Option ℕ
+placeOf [] w = None
+placeOf (v ∷ vs) w = cond (sameWait v w) (Some 0) (mapped suc (placeOf vs w))
+
+-- what follows where there is something
+abbrev pub andThen : {X Y : Type 0} → Option X → (X → Option Y) → Option Y
+andThen None f = None
+andThen (Some x) f = f x

@@ -2,6 +2,7 @@
 pub mod opening;
 pub mod rules;
 pub mod state;
+pub mod steps;
 mod table;
 pub mod verdicts;
 mod sharing;

@@ -2,9 +2,12 @@
 ghost use mathlib.Core.Bool.{true, false};
 ghost use mathlib.Core.List.{[]};
 ghost use mathlib.Core.Path.{_≡_};
+ghost use Rattle.std.specs.Options.{mapped};
 ghost use Rattle.std.specs.Results.{Cases};
+ghost use Rattle.std.specs.declared.option.Option.the-variants.{Some};
+ghost use Rattle.clauses.specs.Steps.{waitLiteral};
 ghost use Rattle.clauses.specs.declared.refusals.Refusal.the-variants.{NothingLeft};
-ghost use Rattle.inspection.specs.Waits.{admitted, givenOut, held, sameWait, waitless, waitOf};
+ghost use Rattle.inspection.specs.Waits.{admitted, givenOut, held, placeOf, sameWait, waitless, waitOf};
 use clauses::Kind;
 use clauses::Line;
 use clauses::Literal;
@@ -53,6 +56,19 @@ impl Waits {
             }
         }
         false
+    }
+
+    // The literal that asserts a wait that has been given out.
+    pub(crate) fn literal(&self, wanted: Wait) -> Literal
+        requires { ⌜ held (givenOut (now self)) wanted ≡ true ⌝ }
+        ensures { λ r. ⌜ Some r ≡ mapped waitLiteral (placeOf (givenOut (now (self .entry))) wanted) ⌝ }
+    {
+        for i in 0..self.count {
+            if self.given[i].same(wanted) {
+                return Literal(2048 + 2 * i as u16);
+            }
+        }
+        unreachable()
     }
 
     // A new wait is given out and an old one is shared; refused where a new one finds none left.

@@ -1,6 +1,10 @@
 // The record of an inspection, and its table of lines, which is lent.
+ghost use mathlib.Core.Bool.{true};
+ghost use mathlib.Core.Path.{_≡_};
 ghost use Prim.Native.Nat.{_≤_};
-ghost use lib.ListN.{length};
+ghost use lib.ListN.{length, take};
+ghost use Rattle.inspection.specs.Lawful.{lawful};
+ghost use Rattle.inspection.specs.Waits.{givenOut};
 use clauses::Line;
 use crate::waits::Waits;
 
@@ -14,4 +18,5 @@ pub struct Inspection<'a> {
     pub(crate) lines: &'a mut [Line],
     ghost within: { made ≤ room },
     ghost fits: { room ≤ length (lines .now) },
+    ghost lawful: { lawful (givenOut waits) (take made (lines .now)) ≡ true },
 }

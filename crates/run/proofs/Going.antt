@@ -1,90 +1,106 @@
 -- What the loop over the fields of a work keeps. Assumes nothing.
 use mathlib.Core.Path.{_≡_, refl, sym, ap, subst, _∙_}
-use mathlib.Core.Bool.{Bool, true, false, cond, true≢false}
+use mathlib.Core.Bool.{true, false}
 use mathlib.Core.List.{List, [], _∷_, _++_, append-assoc}
-use Prim.Native.Nat.{ℕ, suc, zero, _+_, _≤_, _<_}
+use Prim.Native.Nat.{ℕ, suc, _+_, _≤_, _<_}
 use native.Mathlib.Omega.{arith}
-use lib.Dec.{ltb}
-use lib.ListN.{length, drop}
-use Rattle.std.specs.declared.option.Option.{Option}
-use Rattle.std.specs.declared.option.Option.the-variants.{None, Some}
+use denote.Ref.{name}
+use lib.ListN.{length}
+use Rattle.std.specs.Vec.{made}
+use Rattle.std.specs.declared.result.Result.{Result}
+use Rattle.std.specs.declared.result.Result.the-variants.{Ok, Err}
+use Rattle.clauses.specs.declared.lines.Line.{Line}
 use Rattle.fields.specs.declared.shapes.Source.the-variants as source
 use Rattle.fields.specs.declared.walk.Reader.{Reader}
-use Rattle.fields.specs.Layouts.{split}
-use Rattle.std.specs.declared.result.Result.the-variants.{Ok}
-use Rattle.fields.specs.declared.shapes.Field.{Field}
-use Rattle.fields.specs.Parse.{Parsed, ended, shows, refuses, parse, fieldAt, atEnd, told}
-use Rattle.fields.specs.Shown.{Shown, shownOf}
-use Rattle.inspection.specs.Models.{Model}
+use Rattle.inspection.specs.Calls.{answer, verdict}
+use Rattle.inspection.specs.declared.state.Inspection.{Inspection}
+use Rattle.inspection.specs.Models.{modelOf, overlay}
+use Rattle.inspection.proofs.Overlays.{overlay-same, overlay-twice}
 use Rattle.run.specs.Files.{itemsFrom, itemsOf}
-use Rattle.run.specs.Text.{workText, noText}
-use Rattle.run.proofs.Stepping.{items-at, itemsBy}
+use Rattle.run.specs.Runs.{afterWork}
+use Rattle.run.specs.Steps.{Written, leftAhead, linesAhead}
+use Rattle.run.specs.Text.{verdictText, workText}
 use Rattle.run.proofs.Taking.{some-left}
 
--- no field of a work is shown yet
-pub none-shown : (k : ℕ) (bytes : List ℕ) (p : ℕ) (f : Shown) (q : ℕ) → shows f q ≡ parse (source.Work k) bytes p → ⊥
-none-shown k bytes p f q e = by-test (ltb p (length bytes)) (split (drop p bytes)) e
-  where
-    by-test : (b : Bool) (t : Option (ℕ × List ℕ)) → shows f q ≡ cond b (fieldAt (source.Work k) (length bytes) p t) (atEnd (source.Work k) p) → ⊥
-    by-test true None e = let z : _≡_ {A = ℕ} 0 1 = cc in omega arith
-    by-test true (Some t) e = let z : _≡_ {A = ℕ} 0 1 = cc in omega arith
-    by-test false t e = let z : _≡_ {A = ℕ} 0 1 = cc in omega arith
+-- what holds anyway holds where there is a result
+pub made-so : {X E : Type 0} (r : Result X E) {P : Type 0} → P → made r (λ _. P)
+made-so (Ok x) p = p
+made-so (Err e) p = tt
 
--- a work for a model m, whose lines follow the text before; the loop has come to the reader r and to the field n
-pub record Sofar (m : Model) (work before : List ℕ) (r : Reader) (text : List ℕ) (n : ℕ) : Type 0 where
-  pub file : r .source ≡ source.Work (m .indices)
+-- a table with these lines, where the result says which they are
+pub laid-as : {X E : Type 0} (r : Result X E) (table lines lines′ before : List Line) → table ≡ overlay lines before → made r (λ _. lines ≡ lines′) → made r (λ _. table ≡ overlay lines′ before)
+laid-as (Ok x) table lines lines′ before is same = is ∙ ap (λ l. overlay l before) same
+laid-as (Err e) table lines lines′ before is same = tt
+
+-- one line more, and then the rest
+pub wrote-line : (text text′ line rest whole : List ℕ) → text′ ≡ text ++ line → whole ≡ line ++ rest → text′ ++ rest ≡ text ++ whole
+wrote-line text text′ line rest whole wrote is = ap (λ t. t ++ rest) wrote ∙ append-assoc text line rest ∙ ap (λ l. text ++ l) (sym is)
+
+-- a work for the inspection s₀, whose lines follow the text before; the loop has come to the reader r, the inspection s and field n
+pub record Sofar (work before : List ℕ) (s₀ : Inspection) (r : Reader) (s : Inspection) (text : List ℕ) (n : ℕ) : Type 0 where
+  pub file : r .source ≡ source.Work (modelOf s₀ .indices)
   pub bytes : r .bytes .now ≡ work
   pub within : r .place ≤ length work
   pub few : n ≤ r .place
-  pub lines : (j : ℕ) × (length work < r .place + j) × (text ++ workText m n (itemsFrom j (source.Work (m .indices)) work (r .place)) ≡ before ++ workText m 0 (itemsOf (source.Work (m .indices)) work))
+  pub lines : (j : ℕ) × (length work < r .place + j) × (text ++ linesAhead j r (modelOf s) n ≡ before ++ workText (modelOf s₀) 0 (itemsOf (source.Work (modelOf s₀ .indices)) work)) × (leftAhead j r (modelOf s) ≡ afterWork (modelOf s₀) (itemsOf (source.Work (modelOf s₀ .indices)) work) .lines)
+  pub grows : length (modelOf s₀ .lines) ≤ length (modelOf s .lines)
+  pub table : s .lines .now ≡ overlay (modelOf s .lines) (s₀ .lines .now)
+  pub lent : name (s .lines) ≡ name (s₀ .lines)
 
-pub start : (m : Model) (work before : List ℕ) (r : Reader) → r .source ≡ source.Work (m .indices) → r .bytes .now ≡ work → r .place ≡ 0 → Sofar m work before r before 0
-start m work before r file bytes first =
+pub start : (work before : List ℕ) (s : Inspection) (r : Reader) → r .source ≡ source.Work (modelOf s .indices) → r .bytes .now ≡ work → r .place ≡ 0 → Sofar work before s r s before 0
+start work before s r file bytes first =
     record {
       file = file;
       bytes = bytes;
       within = omega arith;
       few = omega arith;
-      lines = (suc (length work), omega arith, ap (λ p. before ++ workText m 0 (itemsFrom (suc (length work)) (source.Work (m .indices)) work p)) first);
+      lines = (
+        suc (length work),
+        omega arith,
+        (λ i. before ++ workText (modelOf s) 0 (itemsFrom (suc (length work)) (file i) (bytes i) (first i))),
+        (λ i. afterWork (modelOf s) (itemsFrom (suc (length work)) (file i) (bytes i) (first i)) .lines),
+      );
+      grows = omega arith;
+      table = sym (overlay-same (s .lines .now) (s .made));
+      lent = refl;
     }
 
-module _ {m : Model} {work before : List ℕ} {r : Reader} {text : List ℕ} {n : ℕ} (h : Sofar m work before r text n) where
-  at : (x : Parsed) → x ≡ parse (r .source) (r .bytes .now) (r .place) → parse (source.Work (m .indices)) work (r .place) ≡ x
-  at x told = sym (λ i. parse (h .file i) (h .bytes i) (r .place)) ∙ sym told
+module _ {work before : List ℕ} {s₀ : Inspection} {r : Reader} {s : Inspection} {text : List ℕ} {n : ℕ} (h : Sofar work before s₀ r s text n) where
+  -- the table, whatever came next
+  pub laid : (s′ : Inspection) → length (modelOf s .lines) ≤ length (modelOf s′ .lines) → s′ .lines .now ≡ overlay (modelOf s′ .lines) (s .lines .now) → s′ .lines .now ≡ overlay (modelOf s′ .lines) (s₀ .lines .now)
+  laid s′ grows table = table ∙ ap (overlay (modelOf s′ .lines)) (h .table) ∙ overlay-twice (modelOf s .lines) (modelOf s′ .lines) (s₀ .lines .now) grows
 
-  step : (x : Parsed) → x ≡ parse (r .source) (r .bytes .now) (r .place) → (j : ℕ) × (length work < r .place + suc j) × (text ++ workText m n (itemsBy j (source.Work (m .indices)) work (r .place) x) ≡ before ++ workText m 0 (itemsOf (source.Work (m .indices)) work))
-  step x told =
+  pub one-more : (r′ : Reader) (s′ : Inspection) (text′ : List ℕ) → r′ .bytes .now ≡ r .bytes .now → r′ .source ≡ r .source → length (modelOf s .lines) ≤ length (modelOf s′ .lines) → s′ .lines .now ≡ overlay (modelOf s′ .lines) (s .lines .now) → name (s′ .lines) ≡ name (s .lines) → Written true n text text′ r (modelOf s) r′ (modelOf s′) → Sofar work before s₀ r′ s′ text′ (n + 1)
+  one-more r′ s′ text′ bytes file grows table lent wrote =
       let w = h .lines in
       let i = some-left (length work) (r .place) (w .0) (h .within) (w .1) in
-      let s = source.Work (m .indices) in
-      (
-        i .0,
-        omega (arith, w .1, i .1),
-        ap (λ l. text ++ workText m n l) (sym (items-at (i .0) s work (r .place) x (at x told))) ∙ ap (λ j. text ++ workText m n (itemsFrom j s work (r .place))) (sym (i .1)) ∙ w .2,
-      )
-
-  pub refused-field : (c q : ℕ) (r′ : Reader) (text′ : List ℕ) → refuses c q ≡ parse (r .source) (r .bytes .now) (r .place) → r′ .place ≡ q → r .place < r′ .place → r′ .place ≤ length (r .bytes .now) → r′ .source ≡ r .source → r′ .bytes .now ≡ r .bytes .now → text′ ≡ text ++ noText n c (r .place) → Sofar m work before r′ text′ (n + 1)
-  refused-field c q r′ text′ told place on within file bytes wrote =
-      let w = step (refuses c q) told in
       let long = ap length (h .bytes) in
+      let on = wrote .0 in
       record {
         file = file ∙ h .file;
         bytes = bytes ∙ h .bytes;
-        within = omega arith;
-        few = omega (arith, h .few);
+        within = omega (arith, on .1);
+        few = omega (arith, h .few, on .0);
         lines = (
-          w .0,
-          omega (arith, w .1),
-          (λ i. wrote i ++ workText m (n + 1) (itemsFrom (w .0) (source.Work (m .indices)) work (place i)))
-          ∙ append-assoc text (noText n c (r .place)) (workText m (n + 1) (itemsFrom (w .0) (source.Work (m .indices)) work q))
-          ∙ w .2,
+          i .0,
+          omega (arith, w .1, i .1, on .0),
+          wrote .1 (i .0) ∙ ap (λ j. text ++ linesAhead j r (modelOf s) n) (sym (i .1)) ∙ w .2,
+          sym (wrote .2 (i .0)) ∙ ap (λ j. leftAhead j r (modelOf s)) (sym (i .1)) ∙ w .3,
         );
+        grows = omega (arith, h .grows);
+        table = laid s′ grows table;
+        lent = lent ∙ h .lent;
       }
 
-  pub over : ended ≡ parse (r .source) (r .bytes .now) (r .place) → text ++ workText m n [] ≡ before ++ workText m 0 (itemsOf (source.Work (m .indices)) work)
-  over told = step ended told .2
+  -- at the end, the verdict is what is left to write
+  pub last-line : (r′ : Reader) (s′ : Inspection) (text′ : List ℕ) → Written false n text text′ r (modelOf s) r′ (modelOf s′) → text′ ++ verdictText (answer (modelOf s′) verdict) ≡ before ++ workText (modelOf s₀) 0 (itemsOf (source.Work (modelOf s₀ .indices)) work)
+  last-line r′ s′ text′ wrote =
+      let w = h .lines in
+      let i = some-left (length work) (r .place) (w .0) (h .within) (w .1) in
+      (λ k. wrote .0 k ++ sym (wrote .1 (i .0)) k) ∙ ap (λ j. text ++ linesAhead j r (modelOf s) n) (sym (i .1)) ∙ w .2
 
--- so an answer that is no refusal is the end
-pub only-end : (k : ℕ) (r : Reader) (o : Option Field) (q : ℕ) → r .source ≡ source.Work k → told (Ok o) q ≡ parse (r .source) (r .bytes .now) (r .place) → ended ≡ parse (r .source) (r .bytes .now) (r .place)
-only-end k r None q file e = e
-only-end k r (Some f) q file e = absurd (none-shown k (r .bytes .now) (r .place) (shownOf f) q (e ∙ ap (λ s. parse s (r .bytes .now) (r .place)) file))
+  pub last-left : (r′ : Reader) (s′ : Inspection) (text′ : List ℕ) → Written false n text text′ r (modelOf s) r′ (modelOf s′) → modelOf s′ .lines ≡ afterWork (modelOf s₀) (itemsOf (source.Work (modelOf s₀ .indices)) work) .lines
+  last-left r′ s′ text′ wrote =
+      let w = h .lines in
+      let i = some-left (length work) (r .place) (w .0) (h .within) (w .1) in
+      sym (wrote .2 (i .0)) ∙ ap (λ j. leftAhead j r (modelOf s)) (sym (i .1)) ∙ w .3

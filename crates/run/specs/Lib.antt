@@ -2,5 +2,5 @@ pub mod Parts
 pub mod Files
 pub mod Faults
 pub mod Runs
-pub mod Steps
 pub mod Text
+pub mod Steps

@@ -9,11 +9,11 @@ use Rattle.std.specs.declared.option.Option.{Option}
 use Rattle.std.specs.declared.option.Option.the-variants.{None, Some}
 use Rattle.std.specs.Written.{decimal}
 use Rattle.fields.specs.declared.shapes.Source.the-variants as source
-use Rattle.inspection.specs.Calls.{Answer, line, impossible, undecided, refused, answer, verdict}
+use Rattle.inspection.specs.Calls.{Answer, line, impossible, undecided, refused, after, answer, verdict}
 use Rattle.clauses.specs.declared.lines.Line.{Line}
 use Rattle.inspection.specs.Models.{Model, overlay}
 use Rattle.run.specs.Files.{Item, shown, flawed, itemsOf}
-use Rattle.run.specs.Runs.{Book, taken, stopped, bookOf, madeBy}
+use Rattle.run.specs.Runs.{Book, taken, stopped, bookOf, madeBy, workCall}
 
 abbrev pub bookText : ℕ → ℕ → List ℕ
 bookText k rules = codes "book " ++ (decimal k ++ (codes " " ++ (decimal rules ++ codes "\n")))
@@ -25,6 +25,17 @@ bookNoText number offset = codes "book no " ++ (decimal number ++ (codes " " ++ 
 abbrev pub noText : ℕ → ℕ → ℕ → List ℕ
 noText i number offset = decimal i ++ (codes " no " ++ (decimal number ++ (codes " " ++ (decimal offset ++ codes "\n"))))
 
+-- it made a line
+abbrev pub lineText : ℕ → ℕ → List ℕ
+lineText i n = decimal i ++ (codes " line " ++ (decimal n ++ codes "\n"))
+
+-- what the field of this number, at this offset, came to
+abbrev pub answerText : ℕ → ℕ → Answer → List ℕ
+answerText i offset (line n) = lineText i n
+answerText i offset (refused number) = noText i number offset
+answerText i offset (impossible n) = []
+answerText i offset undecided = []
+
 -- the last line
 abbrev pub verdictText : Answer → List ℕ
 verdictText (impossible n) = codes "impossible " ++ (decimal n ++ codes "\n")
@@ -32,11 +43,11 @@ verdictText undecided = codes "undecided\n"
 verdictText (line n) = []
 verdictText (refused n) = []
 
--- a line for each field of the work, the first of them numbered i, and the verdict; no field of a work is shown yet
+-- a line for each field of the work, the first of them numbered i, and the verdict
 abbrev pub workText : Model → ℕ → List Item → List ℕ
 workText m i [] = verdictText (answer m verdict)
 workText m i (flawed p c ∷ items) = noText i c p ++ workText m (i + 1) items
-workText m i (shown p f ∷ items) = workText m (i + 1) items
+workText m i (shown p f ∷ items) = elim (workCall f) [ None ↦ workText m (i + 1) items | Some c ↦ answerText i p (answer m c) ++ workText (after m c) (i + 1) items ]
 
 -- a work after its book
 abbrev pub runText : List ℕ → Book → List ℕ
@@ -61,7 +72,7 @@ report room book work = readText room (readable book) (readable work)
 abbrev pub leftBy : ℕ → Option (List ℕ) → Option (List ℕ) → List Line
 leftBy room None work = []
 leftBy room (Some book) None = []
-leftBy room (Some book) (Some work) = madeBy (bookOf room (itemsOf source.Book book))
+leftBy room (Some book) (Some work) = madeBy work (bookOf room (itemsOf source.Book book))
 
 -- the table after the run, every byte of it
 abbrev pub tableOf : Option (List ℕ) → Option (List ℕ) → List Line → List Line

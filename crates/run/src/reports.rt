@@ -42,7 +42,7 @@ fn readable(file: Option<&[u8]>) -> Option<&[u8]>
 // Takes in the book, goes through the work, and writes what came of it.
 fn write_run(text: &mut String, book: &[u8], work: &[u8], lines: &mut [Line]) -> fmt::Result
     ensures text { λ r. ⌜ made r (λ _. string-bytes (now (text .exit)) ≡ string-bytes (now (text .entry)) ++ runText (now (work .entry)) (bookOf (length (now (lines .entry))) (itemsOf source.Book (now (book .entry))))) ⌝ }
-    ensures table { λ _. ⌜ now (lines .exit) ≡ overlay (madeBy (bookOf (length (now (lines .entry))) (itemsOf source.Book (now (book .entry))))) (now (lines .entry)) ⌝ }
+    ensures table { λ r. ⌜ made r (λ _. now (lines .exit) ≡ overlay (madeBy (now (work .entry)) (bookOf (length (now (lines .entry))) (itemsOf source.Book (now (book .entry))))) (now (lines .entry))) ⌝ }
 {
     let mut reader = Reader::new(Source::Book, book);
     let opening = match begin(&mut reader, lines) {
@@ -53,7 +53,7 @@ fn write_run(text: &mut String, book: &[u8], work: &[u8], lines: &mut [Line]) ->
     match take_rules(&mut reader, &mut inspection) {
         Ok(rules) => {
             write_book(text, inspection.indices(), rules)?;
-            write_work(text, work, &inspection)
+            write_work(text, work, &mut inspection)
         }
         Err(fault) => write_refused_book(text, fault),
     }

@@ -6,7 +6,7 @@ ghost use Rattle.std.specs.Of.String.{string-bytes};
 ghost use Rattle.std.specs.Vec.{made};
 ghost use Rattle.inspection.specs.Calls.{impossible, toldVerdict, undecided};
 ghost use Rattle.run.specs.Faults.{refusedNumber};
-ghost use Rattle.run.specs.Text.{bookNoText, bookText, noText, verdictText};
+ghost use Rattle.run.specs.Text.{bookNoText, bookText, lineText, noText, verdictText};
 use inspection::Verdict;
 use std::fmt;
 use std::fmt::Write;
@@ -45,6 +45,13 @@ pub(crate) fn write_refused(text: &mut String, field: usize, fault: Fault) -> fm
     let number = fault.number();
     let offset = fault.offset;
     writeln!(text, "{field} no {number} {offset}")
+}
+
+// The field of this number made a line.
+pub(crate) fn write_line(text: &mut String, field: usize, line: usize) -> fmt::Result
+    ensures { λ r. ⌜ made r (λ _. string-bytes (now (text .exit)) ≡ string-bytes (now (text .entry)) ++ lineText field line) ⌝ }
+{
+    writeln!(text, "{field} line {line}")
 }
 
 fn write_impossible(text: &mut String, line: usize) -> fmt::Result

@@ -1,35 +1,52 @@
 use mathlib.Core.Path.{_≡_, refl, sym, ap, subst, _∙_}
 use mathlib.Core.List.{_++_}
-use lib.ListN.{length}
-use Rattle.std.proofs.shelf.Results.{made-weaker}
+use native.Mathlib.Omega.{arith}
+use Rattle.std.proofs.shelf.Results.{made-from-err, made-weaker}
 use Rattle.std.specs.Of.String.{string-bytes}
-use Rattle.std.specs.declared.result.Result.the-variants.{Err}
+use Rattle.std.specs.Vec.{made}
 use Rattle.fields.specs.declared.shapes.Source.the-variants as source
-use Rattle.fields.specs.Walk.{Moves}
 use Rattle.inspection.specs.Models.{modelOf}
-use Rattle.run.specs.Faults.{refusedNumber}
-use Rattle.run.specs.Text.{noText, verdictText}
-use Rattle.run.proofs.Going.{start, only-end, refused-field, over}
+use Rattle.run.specs.Steps.{Written}
+use Rattle.run.specs.Text.{verdictText}
+use Rattle.run.proofs.Going.{laid, last-left, last-line, made-so, one-more, start}
 use Rattle.run.proofs.works.write_work.Needs as need
 
-pub loop-text-holds : need.loop-text-holds
-loop-text-holds c =
+pub loop-more-holds : need.loop-more-holds
+loop-more-holds c =
     let new = c .new-reader .ensures in
-    start (modelOf (c .args .inspection .now)) (c .args .work .now) (string-bytes (c .args .text .now)) (c .new-reader .result) (new .file ∙ ap source.Work (c .indices .ensures)) (new .lent) (new .start)
+    start (c .args .work .now) (string-bytes (c .args .text .now)) (c .args .inspection .now) (c .new-reader .result) (new .file ∙ ap source.Work (c .indices .ensures)) (new .lent) (new .start)
 
-pub loop-text-again : need.loop-text-again
-loop-text-again c =
-    let h = c .loop-text .inv in
-    let r = c .loop-text .reader in
-    let r′ = c .next-field .last .self in
-    let next = c .in-Err .ensures tt in
-    let on = subst (λ s. Moves s (Err (c .in-Err .fault)) (length (r .bytes .now)) (r .place) (r′ .place)) (h .file) (next .moves) in
-    let wrote = c .in-Continue-write-refused .ensures tt ∙ (λ i. string-bytes (c .loop-text .text) ++ noText (c .loop-text .number) (refusedNumber (c .from-refused .ensures i)) (c .place-offset .ensures i)) in
-    refused-field h _ (r′ .place) r′ (string-bytes (c .write-refused .last .text)) (next .value) refl (on .0) (on .1) (next .same .1) (next .same .0) wrote
+pub loop-more-again : need.loop-more-again
+loop-more-again c =
+    let next = c .in-Continue-more .ensures tt in
+    let wrote = subst (λ b. Written b (c .loop-more .number) (string-bytes (c .loop-more .text)) (string-bytes (c .write-next .last .text)) (c .loop-more .reader) (modelOf (c .loop-more .inspection)) (c .write-next .last .reader) (modelOf (c .write-next .last .inspection))) (c .if-not-more .left) (next .step) in
+    one-more (c .loop-more .inv) (c .write-next .last .reader) (c .write-next .last .inspection) (string-bytes (c .write-next .last .text)) (next .same .0) (next .same .1) (next .grows) (next .table) (next .lent) wrote
 
-pub returns-in-Ok : need.returns-in-Ok
-returns-in-Ok c =
-    let h = c .loop-text .inv in
-    let m = modelOf (c .args .inspection .now) in
-    let last = over h (only-end (m .indices) (c .loop-text .reader) _ _ (h .file) (c .in-Ok .ensures tt .value)) in
-    made-weaker (c .write-verdict .result) _ _ (λ _ e. e ∙ ap (λ a. string-bytes (c .loop-text .text) ++ verdictText a) (c .verdict .ensures .answer) ∙ last) (c .write-verdict .ensures)
+pub returns-in-Break-more : need.returns-in-Break-more
+returns-in-Break-more c =
+    let h = c .loop-more .inv in
+    let next = c .in-Break-more .ensures tt in
+    let failed = c .from-residual .ensures .0 in
+    record {
+      text = made-from-err (c .from-residual .result) _ failed;
+      left = made-from-err (c .from-residual .result) _ failed;
+      grows = omega (arith, h .grows, next .grows);
+      table = laid h (c .write-next .last .inspection) (next .grows) (next .table);
+      lent = next .lent ∙ h .lent;
+    }
+
+pub returns-then-not-more : need.returns-then-not-more
+returns-then-not-more c =
+    let h = c .loop-more .inv in
+    let next = c .in-Continue-more .ensures tt in
+    let r′ = c .write-next .last .reader in
+    let s′ = c .write-next .last .inspection in
+    let text′ = string-bytes (c .write-next .last .text) in
+    let wrote = subst (λ b. Written b (c .loop-more .number) (string-bytes (c .loop-more .text)) text′ (c .loop-more .reader) (modelOf (c .loop-more .inspection)) r′ (modelOf s′)) (c .if-not-more .taken) (next .step) in
+    record {
+      text = made-weaker (c .write-verdict .result) _ _ (λ _ e. e ∙ ap (λ a. text′ ++ verdictText a) (c .verdict .ensures .answer) ∙ last-line h r′ s′ text′ wrote) (c .write-verdict .ensures);
+      left = made-so (c .write-verdict .result) (last-left h r′ s′ text′ wrote);
+      grows = omega (arith, h .grows, next .grows);
+      table = laid h s′ (next .grows) (next .table);
+      lent = next .lent ∙ h .lent;
+    }

@@ -4,7 +4,7 @@ use mathlib.Core.List.{List}
 use Prim.Native.Nat.{ℕ, _≤_, _<_, _-_, min}
 use native.Mathlib.Omega.{arith}
 use borrow.Author.Needs.{needs}
-use lib.ListN.{length, take}
+use lib.ListN.{length, take, length-take}
 use Rattle.std.proofs.shelf.Lists.{take-all}
 use Rattle.std.proofs.str.Laws.{order}
 use Rattle.clauses.proofs.lines.Side.literals.Needs as need
@@ -21,4 +21,7 @@ pub returns : need.returns
 returns c =
     let long : length (c .args .self .now .places) ≤ 16 = omega arith in
     let e : c .min-n .result - 0 ≡ min (c .args .self .now .count) 16 = omega arith in
-    ap (λ i. take i (c .args .self .now .places)) e ∙ take-min _ 16 _ long
+    record {
+      value = ap (λ i. take i (c .args .self .now .places)) e ∙ take-min _ 16 _ long;
+      short = omega (arith, length-take (c .min-n .result - 0) (c .args .self .now .places));
+    }

@@ -14,7 +14,7 @@ use Rattle.fields.specs.Shown.{written}
 use Rattle.fields.specs.Layouts.{split}
 use Rattle.fields.specs.Parse.{ended, placeAfter, parse}
 use Rattle.fields.specs.Walk.{Onward, Moves}
-use Rattle.fields.proofs.Written.{parse-whole, parse-broken, parse-written, field-sound}
+use Rattle.fields.proofs.Written.{parse-whole, parse-broken, parse-written}
 use Rattle.fields.proofs.walk.Reader.next_field.Needs as need
 use Rattle.fields.proofs.walk.Reader.next_field.Needs.{In-Some}
 
@@ -34,8 +34,25 @@ returns-in-Book-2 c =
       same = (refl, refl);
       moves = (c .if-offset-bytes .taken, refl);
       short = tt;
+      stands = tt;
       sound = tt;
-      complete = λ f rest e even may. over ∙ parse-written (self .source) (self .bytes .now) (self .place) f rest e even may;
+      complete = parse-written (self .source) (self .bytes .now) (self .place) _ over;
+    }
+
+pub returns-in-Work : need.returns-in-Work
+returns-in-Work c =
+    let self = c .args .self .now in
+    let over : ended ≡ parse (self .source) (self .bytes .now) (self .place) = search needs in
+    record {
+      value = over;
+      offset = tt;
+      after = ap (placeAfter (self .place)) over;
+      same = (refl, refl);
+      moves = (c .if-offset-bytes .taken, refl);
+      short = tt;
+      stands = tt;
+      sound = tt;
+      complete = parse-written (self .source) (self .bytes .now) (self .place) _ over;
     }
 
 module _ (c : In-Some) where
@@ -75,8 +92,9 @@ returns-in-rest c =
       same = (refl, refl);
       moves = onward (self .source) _ _ _ _ (inside, omega arith);
       short = tt;
+      stands = tt;
       sound = tt;
-      complete = λ f rest e even may. value ∙ parse-written (self .source) bs (self .place) f rest e even may;
+      complete = parse-written (self .source) bs (self .place) _ value;
     }
 
 pub returns-in-Ok : need.returns-in-Ok
@@ -85,8 +103,8 @@ returns-in-Ok c =
     let self = c .args .self .now in
     let bs = self .bytes .now in
     let p = self .place in
-    let field = c .in-Ok .ensures tt .value in
-    let value = parse-whole (self .source) bs p _ _ _ (c .if-offset-bytes .left) (parts some) field in
+    let says = c .in-Ok .ensures tt .sound in
+    let value = parse-whole (self .source) bs p _ _ _ (c .if-offset-bytes .left) (parts some) (c .in-Ok .ensures tt .value) in
     record {
       value = value;
       offset = tt;
@@ -94,8 +112,9 @@ returns-in-Ok c =
       same = (refl, refl);
       moves = (omega arith, within some);
       short = c .in-Ok .ensures tt .short;
-      sound = front some ∙ ap (λ xs. xs ++ drop (p + 3 + length (c .in-Some .value .now)) bs) (field-sound (self .source) p _ _ _ field);
-      complete = λ f rest e even may. value ∙ parse-written (self .source) bs p f rest e even may;
+      stands = c .in-Ok .ensures tt .stands;
+      sound = front some ∙ ap (λ xs. xs ++ drop (p + 3 + length (c .in-Some .value .now)) bs) (λ i. written (says .0 i) (says .1 i));
+      complete = parse-written (self .source) bs p _ value;
     }
 
 pub returns-in-Err : need.returns-in-Err
@@ -112,6 +131,7 @@ returns-in-Err c =
       same = (refl, refl);
       moves = onward (self .source) _ _ _ _ (omega arith, within some);
       short = tt;
+      stands = tt;
       sound = tt;
-      complete = λ f rest e even may. value ∙ parse-written (self .source) bs p f rest e even may;
+      complete = parse-written (self .source) bs p _ value;
     }

@@ -10,6 +10,8 @@ use Rattle.clauses.specs.Refusals.{numberOf}
 use Rattle.inspection.specs.Calls.{toldLine, line, refused, lineWaitless, withLine}
 use Rattle.inspection.specs.Models.{Model, modelOf, overlay}
 use Rattle.inspection.specs.Waits.{admitted, givenOut, waitless}
+use Rattle.inspection.specs.Lawful.{lawfulLine}
+use Rattle.inspection.proofs.Keeping.{admit-lawful, rule-lawful}
 use Rattle.inspection.proofs.Overlays.{overlay-same, overlay-set}
 use Rattle.inspection.proofs.Adding.{ill-formed, no-room, no-wait, accepted}
 use Rattle.inspection.proofs.state.Inspection.rule.Needs as need
@@ -75,3 +77,20 @@ returns c =
       table = stored .lines ∙ sym (overlay-set (s .lines .now) (s .made) x free) ∙ sym (ap (λ l. overlay l (s .lines .now)) lines);
       lent = stored .lent;
     }
+
+pub put-requires : need.put-requires
+put-requires c κs =
+    let s = c .args .self .now in
+    let formed = c .in-Continue-line .ensures tt in
+    let x = c .in-Continue-line .line in
+    let given = c .in-Continue-admit .ensures tt in
+    let long = length-take-le (s .made) (s .lines .now) (omega (arith, s .within, s .fits)) in
+    record {
+      room = omega (arith, leb-false (s .room) (length (take (s .made) (s .lines .now))) (c .in-Continue-has-room .ensures tt), long);
+      lawful = ap (λ ws. lawfulLine ws x) (given .1 ∙ ap (admitted (givenOut (s .waits))) (c .of .ensures)) ∙ rule-lawful (givenOut (s .waits)) (s .indices) (c .args .kind) (c .args .index) (c .args .left .now) (c .args .right .now) x (formed .0) (formed .1);
+    }
+
+pub ghost-self : need.ghost-self
+ghost-self c =
+    let s = c .args .self .now in
+    (s .within, (s .fits, (admit-lawful (c .admit .result) (s .waits) (c .admit .last .self) (c .of .result) (take (s .made) (s .lines .now)) (c .admit .ensures) (s .lawful), tt)))
