@@ -2,3 +2,4 @@ pub mod Waits
 pub mod Lawful
 pub mod Models
 pub mod Calls
+pub mod Examples

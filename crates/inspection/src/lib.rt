@@ -1,4 +1,5 @@
 // An inspection: the rules of a book taken in, and what follows from them.
+pub mod examples;
 pub mod opening;
 pub mod rules;
 pub mod state;
