@@ -15,7 +15,7 @@ use Rattle.ordered.specs.Unions.{fitting, insert, union}
 use Rattle.std.specs.declared.cmp.Ordering.the-variants.{Less}
 use Rattle.std.specs.shelf.Lists.{All}
 use Rattle.ordered.proofs.Ascending.{ascending-cons, ascending-head, ascending-tail}
-use Rattle.ordered.proofs.Uniting.{insert-ascends, union-ascends}
+use Rattle.ordered.proofs.Uniting.{insert-ascends, union-ascends, union-none}
 use Rattle.clauses.specs.declared.literals.Literal.{Literal}
 use Rattle.clauses.specs.declared.lines.Side.{Side}
 use Rattle.clauses.specs.Lines.{literals, sideFor, sideOf, zero}
@@ -136,3 +136,6 @@ join-length (x ∷ xs) ys = omega (arith, insert-length x (join xs ys), join-len
 
 pub join-ascends : (xs ys : List Literal) → ascends ys ≡ true → ascends (join xs ys) ≡ true
 join-ascends xs ys up = union-ascends literalOrder xs ys up
+
+pub join-none : (xs ys : List Literal) → length xs ≡ 0 → length ys ≡ 0 → join xs ys ≡ []
+join-none xs ys = union-none literalRank xs ys

@@ -1,2 +1,3 @@
+pub mod Deriving
 pub mod First
 pub mod Joining

@@ -5,3 +5,4 @@ pub mod Literals
 pub mod Sides
 pub mod Rules
 pub mod Steps
+pub mod Calculus

@@ -11,6 +11,7 @@ use Rattle.clauses.specs.declared.kinds.Kind.{Kind}
 use Rattle.clauses.specs.declared.kinds.Kind.the-variants.{Start, Global, Step, Sometime}
 use Rattle.clauses.specs.declared.lines.Side.{Side}
 use Rattle.clauses.specs.declared.lines.Line.{Line}
+use Rattle.clauses.specs.Calculus.{Clause, clause, setOf}
 
 abbrev pub zero : Literal
 zero = record { 0 = 0 }
@@ -35,6 +36,10 @@ contradicts (Sometime s) right = false
 
 abbrev pub refutes : Line → Bool
 refutes line = contradicts (line .kind) (literals (line .right))
+
+-- the clause that a line stands for
+abbrev pub clauseOf : Line → Clause
+clauseOf line = clause (line .kind) (setOf (literals (line .left))) (setOf (literals (line .right)))
 
 -- what a read past the end of a list of lines stands for in a proof
 abbrev pub blank : Line

@@ -31,7 +31,7 @@ use Rattle.clauses.proofs.Joining.{literals-of}
 use Rattle.inspection.specs.declared.waits.Wait.{Wait}
 use Rattle.inspection.specs.declared.waits.Waits.{Waits}
 use Rattle.inspection.specs.Calls.{lineAt}
-use Rattle.inspection.specs.Lawful.{lawful, lawfulLine, waited}
+use Rattle.inspection.specs.Lawful.{lawful, lawfulLine, sized, waited}
 use Rattle.inspection.specs.Waits.{admitted, givenOut, held, sameScope, sameWait, waitless, waitOf}
 
 -- ---- tests joined by and
@@ -129,14 +129,15 @@ admit-lawful (Err e) before after o xs h k = ap (λ w. lawful (givenOut w) xs) (
 abbrev causesBy : Option Kind → List Literal → List Literal → List Cause
 causesBy o l r = (7, not (isSome o)) ∷ (8, not (inRange l && inRange r)) ∷ (9, not (ascends l && ascends r)) ∷ (10, fails (λ kind. shaped kind (length l) (length r)) o) ∷ (11, fails (λ kind. leb (length l) (mostLeft kind) && leb (length r) 16) o) ∷ []
 
-marked-lawful : (ws : List Wait) (l r : List Literal) (kind : Kind) → (ascends l && ascends r) ≡ true → (leb (length l) (mostLeft kind) && leb (length r) 16) ≡ true → lawfulLine (admitted ws (waitOf (marked l r kind))) (marked l r kind) ≡ true
-marked-lawful ws l r kind up short =
+marked-lawful : (ws : List Wait) (l r : List Literal) (kind : Kind) → (ascends l && ascends r) ≡ true → shaped kind (length l) (length r) ≡ true → (leb (length l) (mostLeft kind) && leb (length r) 16) ≡ true → lawfulLine (admitted ws (waitOf (marked l r kind))) (marked l r kind) ≡ true
+marked-lawful ws l r kind up shape short =
     let y = marked l r kind in
     let w = waitOf y in
     let ascending = both (ascends (literals (sideOf l))) (ascends (literals (sideOf r))) (ap ascends (literals-of l) ∙ first-so (ascends l) (ascends r) up) (ap ascends (literals-of r) ∙ second-so (ascends l) (ascends r) up) in
     let few = ap (λ s. leb (length s) (mostLeft kind)) (literals-of l) ∙ first-so (leb (length l) (mostLeft kind)) (leb (length r) 16) short in
-    both (proper y) (waited (admitted ws w) w && leb (length (literals (y .left))) (mostLeft kind)) ascending
-    (both (waited (admitted ws w) w) (leb (length (literals (y .left))) (mostLeft kind)) (waited-admitted ws w) few)
+    let formed = (λ i. shaped kind (length (literals-of l i)) (length (literals-of r i))) ∙ shape in
+    both (proper y) (waited (admitted ws w) w && sized y) ascending
+    (both (waited (admitted ws w) w) (sized y) (waited-admitted ws w) (both (leb (length (literals (y .left))) (mostLeft kind)) (shaped kind (length (literals (y .left))) (length (literals (y .right)))) few formed))
 
 kind-lawful : (ws : List Wait) (l r : List Literal) (x : Line) (o : Option Kind) → firstOf (causesBy o l r) ≡ None → Some x ≡ mapped (marked l r) o → lawfulLine (admitted ws (waitOf x)) x ≡ true
 kind-lawful ws l r x None h e = let z : _≡_ {A = ℕ} 0 1 = cc in absurd (omega arith)
@@ -144,8 +145,9 @@ kind-lawful ws l r x (Some kind) h e =
     let same : x ≡ marked l r kind = cc in
     let none = all-none (causesBy (Some kind) l r) h in
     let up = not-false (ascends l && ascends r) (none .1 .1 .0) in
+    let shape = not-false (shaped kind (length l) (length r)) (none .1 .1 .1 .0) in
     let short = not-false (leb (length l) (mostLeft kind) && leb (length r) 16) (none .1 .1 .1 .1 .0) in
-    subst (λ z. lawfulLine (admitted ws (waitOf z)) z ≡ true) (sym same) (marked-lawful ws l r kind up short)
+    subst (λ z. lawfulLine (admitted ws (waitOf z)) z ≡ true) (sym same) (marked-lawful ws l r kind up shape short)
 
 -- the line of a rule that nothing stands against
 pub rule-lawful : (ws : List Wait) (k n i : ℕ) (l r : List Literal) (x : Line) → firstOf (ruleCauses k n i l r) ≡ None → Some x ≡ ruleLine k n i l r → lawfulLine (admitted ws (waitOf x)) x ≡ true

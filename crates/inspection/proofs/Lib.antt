@@ -1,3 +1,4 @@
+pub mod Accepting
 pub mod Adding
 pub mod Given
 pub mod Keeping

@@ -4,8 +4,8 @@ use mathlib.Core.Bool.{Bool, true, false, cond, not, _&&_, _||_, true≢false}
 use mathlib.Core.List.{List, [], _∷_}
 use Prim.Native.Nat.{ℕ, suc, _+_, _*_, _≤_, _<_}
 use native.Mathlib.Omega.{arith}
-use borrow.Author.Tests.{le-leb, leb-true}
-use lib.Dec.{leb}
+use borrow.Author.Tests.{eqb-true, le-leb, leb-true}
+use lib.Dec.{eqb, leb}
 use lib.ListN.{length, getD, take, drop}
 use Rattle.std.specs.declared.option.Option.{Option}
 use Rattle.std.specs.declared.option.Option.the-variants.{None, Some}
@@ -23,13 +23,13 @@ use Rattle.clauses.specs.Kinds.{jointKind, jointScope}
 use Rattle.clauses.specs.Lines.{literals, sideOf}
 use Rattle.clauses.specs.Literals.{opposite}
 use Rattle.clauses.specs.Refusals.{firstOf, numberOf}
-use Rattle.clauses.specs.Rules.{mostLeft}
+use Rattle.clauses.specs.Rules.{mostLeft, shaped}
 use Rattle.clauses.specs.Sides.{ascends, join, opposites, without}
 use Rattle.clauses.specs.Steps.{eitherLoop, enteredLine, enteredRight, made, proper, resolvedFits, resolvedLeft, resolvedLine, resolvedRight, rewrittenLine, stayedLine, waitLiteral}
-use Rattle.clauses.proofs.Joining.{join-ascends, join-length, literals-of, opposites-ascend, opposites-length, pair-ascends, without-ascends}
+use Rattle.clauses.proofs.Joining.{join-ascends, join-length, join-none, literals-of, opposites-ascend, opposites-length, pair-ascends, without-ascends}
 use Rattle.inspection.specs.declared.waits.Wait.{Wait}
 use Rattle.inspection.specs.Calls.{Makes, enteredOf, resolveCauses, resolvedOf, rewriteCauses, stayedOf, waitCauses}
-use Rattle.inspection.specs.Lawful.{lawfulLine, waited}
+use Rattle.inspection.specs.Lawful.{lawfulLine, sized, waited}
 use Rattle.inspection.specs.Models.{Loop}
 use Rattle.inspection.specs.Waits.{andThen, held, placeOf, waitFor, waitOf}
 use Rattle.inspection.proofs.Keeping.{all-none, both, first-so, not-false, second-so}
@@ -53,22 +53,31 @@ plain-left Global h = refl
 plain-left (Step s) h = refl
 plain-left (Sometime s) h = absurd (true≢false (sym h))
 
-pub made-lawful : (ws : List Wait) (kind : Kind) (left right : List Literal) (loop : Option ℕ) → plain kind ≡ true → ascends left ≡ true → ascends right ≡ true → leb (length left) 16 ≡ true → lawfulLine ws (made kind left right loop) ≡ true
-made-lawful ws kind left right loop bare up upr few =
+pub made-lawful : (ws : List Wait) (kind : Kind) (left right : List Literal) (loop : Option ℕ) → plain kind ≡ true → ascends left ≡ true → ascends right ≡ true → leb (length left) 16 ≡ true → shaped kind (length left) (length right) ≡ true → lawfulLine ws (made kind left right loop) ≡ true
+made-lawful ws kind left right loop bare up upr few shape =
     let x = made kind left right loop in
     let sides = both (ascends (literals (sideOf left))) (ascends (literals (sideOf right))) (ap ascends (literals-of left) ∙ up) (ap ascends (literals-of right) ∙ upr) in
-    both (proper x) (waited ws (waitOf x) && leb (length (literals (x .left))) (mostLeft kind)) sides
-    (both (waited ws (waitOf x)) (leb (length (literals (x .left))) (mostLeft kind)) (plain-waits ws kind (literals (x .right)) bare) ((λ i. leb (length (literals-of left i)) (plain-left kind bare i)) ∙ few))
+    let short = (λ i. leb (length (literals-of left i)) (plain-left kind bare i)) ∙ few in
+    let formed = (λ i. shaped kind (length (literals-of left i)) (length (literals-of right i))) ∙ shape in
+    both (proper x) (waited ws (waitOf x) && sized x) sides
+    (both (waited ws (waitOf x)) (sized x) (plain-waits ws kind (literals (x .right)) bare) (both (leb (length (literals (x .left))) (mostLeft kind)) (shaped kind (length (literals (x .left))) (length (literals (x .right)))) short formed))
 
 -- the parts of a lawful line
-pub lawful-proper : (ws : List Wait) (x : Line) → lawfulLine ws x ≡ true → proper x ≡ true
-lawful-proper ws x h = first-so (proper x) (waited ws (waitOf x) && leb (length (literals (x .left))) (mostLeft (x .kind))) h
+module _ (ws : List Wait) (x : Line) (h : lawfulLine ws x ≡ true) where
+  rest : (waited ws (waitOf x) && sized x) ≡ true
+  rest = second-so (proper x) (waited ws (waitOf x) && sized x) h
 
-pub lawful-waited : (ws : List Wait) (x : Line) → lawfulLine ws x ≡ true → waited ws (waitOf x) ≡ true
-lawful-waited ws x h = first-so (waited ws (waitOf x)) (leb (length (literals (x .left))) (mostLeft (x .kind))) (second-so (proper x) (waited ws (waitOf x) && leb (length (literals (x .left))) (mostLeft (x .kind))) h)
+  pub lawful-proper : proper x ≡ true
+  lawful-proper = first-so (proper x) (waited ws (waitOf x) && sized x) h
 
-pub lawful-left : (ws : List Wait) (x : Line) → lawfulLine ws x ≡ true → leb (length (literals (x .left))) (mostLeft (x .kind)) ≡ true
-lawful-left ws x h = second-so (waited ws (waitOf x)) (leb (length (literals (x .left))) (mostLeft (x .kind))) (second-so (proper x) (waited ws (waitOf x) && leb (length (literals (x .left))) (mostLeft (x .kind))) h)
+  pub lawful-waited : waited ws (waitOf x) ≡ true
+  lawful-waited = first-so (waited ws (waitOf x)) (sized x) rest
+
+  pub lawful-left : leb (length (literals (x .left))) (mostLeft (x .kind)) ≡ true
+  lawful-left = first-so (leb (length (literals (x .left))) (mostLeft (x .kind))) (shaped (x .kind) (length (literals (x .left))) (length (literals (x .right)))) (second-so (waited ws (waitOf x)) (sized x) rest)
+
+  pub lawful-shaped : shaped (x .kind) (length (literals (x .left))) (length (literals (x .right))) ≡ true
+  lawful-shaped = second-so (leb (length (literals (x .left))) (mostLeft (x .kind))) (shaped (x .kind) (length (literals (x .left))) (length (literals (x .right)))) (second-so (waited ws (waitOf x)) (sized x) rest)
 
 -- ---- resolving
 
@@ -96,42 +105,68 @@ joint-plain (Step s) (Step t) = step-plain (jointScope s t)
 joint-plain (Step s) (Sometime t) = tt
 joint-plain (Sometime s) b = tt
 
-resolved-lawful : (ws : List Wait) (x y : Line) (l : Literal) (kind : Kind) → plain kind ≡ true → proper x ≡ true → proper y ≡ true → resolvedFits x y l ≡ true → lawfulLine ws (resolvedLine kind x y l) ≡ true
-resolved-lawful ws x y l kind bare px py fits =
-    let left = second-so-left py in
+-- the counts of both sides fit a kind that there is
+abbrev ShapedIf : Option Kind → ℕ → ℕ → Type 0
+ShapedIf None m n = Unit {0}
+ShapedIf (Some kind) m n = shaped kind m n ≡ true
+
+step-shaped : (o : Option Scope) (m n : ℕ) → ShapedIf (mapped Step o) m n
+step-shaped None m n = tt
+step-shaped (Some s) m n = refl
+
+empty-join : (l r : List Literal) → eqb (length l) 0 ≡ true → eqb (length r) 0 ≡ true → eqb (length (join l r)) 0 ≡ true
+empty-join l r p q = ap (λ xs. eqb (length xs) 0) (join-none l r (eqb-true (length l) 0 p) (eqb-true (length r) 0 q))
+
+-- two lines without a left join to one without
+joins-shaped : (a b : Kind) (l r : List Literal) (m n k : ℕ) → shaped a (length l) m ≡ true → shaped b (length r) n ≡ true → ShapedIf (jointKind a b) (length (join l r)) k
+joins-shaped Start Start l r m n k p q = empty-join l r p q
+joins-shaped Start Global l r m n k p q = empty-join l r p q
+joins-shaped Start (Step t) l r m n k p q = tt
+joins-shaped Start (Sometime t) l r m n k p q = tt
+joins-shaped Global Start l r m n k p q = empty-join l r p q
+joins-shaped Global Global l r m n k p q = empty-join l r p q
+joins-shaped Global (Step t) l r m n k p q = refl
+joins-shaped Global (Sometime t) l r m n k p q = tt
+joins-shaped (Step s) Start l r m n k p q = tt
+joins-shaped (Step s) Global l r m n k p q = refl
+joins-shaped (Step s) (Step t) l r m n k p q = step-shaped (jointScope s t) (length (join l r)) k
+joins-shaped (Step s) (Sometime t) l r m n k p q = tt
+joins-shaped (Sometime s) b l r m n k p q = tt
+
+resolved-lawful : (ws : List Wait) (x y : Line) (l : Literal) (kind : Kind) → plain kind ≡ true → shaped kind (length (resolvedLeft x y)) (length (resolvedRight x y l)) ≡ true → proper x ≡ true → proper y ≡ true → resolvedFits x y l ≡ true → lawfulLine ws (resolvedLine kind x y l) ≡ true
+resolved-lawful ws x y l kind bare shape px py fits =
+    let left = first-so (ascends (literals (y .left))) (ascends (literals (y .right))) py in
     let right = second-so (ascends (literals (y .left))) (ascends (literals (y .right))) py in
     made-lawful ws kind (resolvedLeft x y) (resolvedRight x y l) (eitherLoop (x .belongs) (y .belongs)) bare
     (join-ascends (literals (x .left)) (literals (y .left)) left)
     (join-ascends (without l (literals (x .right))) (without (opposite l) (literals (y .right))) (without-ascends (opposite l) (literals (y .right)) right))
     (first-so (leb (length (resolvedLeft x y)) 16) (leb (length (resolvedRight x y l)) 16) fits)
-  where
-    second-so-left : proper y ≡ true → ascends (literals (y .left)) ≡ true
-    second-so-left h = first-so (ascends (literals (y .left))) (ascends (literals (y .right))) h
+    shape
 
-by-kind : (ws : List Wait) (x y z : Line) (l : Literal) (o : Option Kind) → PlainIf o → proper x ≡ true → proper y ≡ true → resolvedFits x y l ≡ true → Some z ≡ mapped (λ kind. resolvedLine kind x y l) o → lawfulLine ws z ≡ true
-by-kind ws x y z l None bare px py fits e = let q : _≡_ {A = ℕ} 0 1 = cc in absurd (omega arith)
-by-kind ws x y z l (Some kind) bare px py fits e =
+by-kind : (ws : List Wait) (x y z : Line) (l : Literal) (o : Option Kind) → PlainIf o → ShapedIf o (length (resolvedLeft x y)) (length (resolvedRight x y l)) → proper x ≡ true → proper y ≡ true → resolvedFits x y l ≡ true → Some z ≡ mapped (λ kind. resolvedLine kind x y l) o → lawfulLine ws z ≡ true
+by-kind ws x y z l None bare shape px py fits e = let q : _≡_ {A = ℕ} 0 1 = cc in absurd (omega arith)
+by-kind ws x y z l (Some kind) bare shape px py fits e =
     let same : z ≡ resolvedLine kind x y l = cc in
-    ap (lawfulLine ws) same ∙ resolved-lawful ws x y l kind bare px py fits
+    ap (lawfulLine ws) same ∙ resolved-lawful ws x y l kind bare shape px py fits
 
 -- what `resolvent` answers on two lawful lines
 pub resolvent-makes : (ws : List Wait) (x y : Line) (l : Literal) (r : Result Line Refusal) → lawfulLine ws x ≡ true → lawfulLine ws y ≡ true → Cases r (λ z. (firstOf (resolveCauses [] (Some x) (Some y) l) ≡ None) × (Some z ≡ resolvedOf (Some x) (Some y) l)) (λ e. firstOf (resolveCauses [] (Some x) (Some y) l) ≡ Some (numberOf e)) → Makes r (resolveCauses [] (Some x) (Some y) l) (resolvedOf (Some x) (Some y) l) ws
 resolvent-makes ws x y l (Ok z) hx hy h =
     let none = all-none (resolveCauses [] (Some x) (Some y) l) (h .0) in
     let fits = not-false (resolvedFits x y l) (none .1 .1 .1 .0) in
-    (h .0, h .1, by-kind ws x y z l (jointKind (x .kind) (y .kind)) (joint-plain (x .kind) (y .kind)) (lawful-proper ws x hx) (lawful-proper ws y hy) fits (h .1))
+    (h .0, h .1, by-kind ws x y z l (jointKind (x .kind) (y .kind)) (joint-plain (x .kind) (y .kind)) (joins-shaped (x .kind) (y .kind) (literals (x .left)) (literals (y .left)) _ _ _ (lawful-shaped ws x hx) (lawful-shaped ws y hy)) (lawful-proper ws x hx) (lawful-proper ws y hy) fits (h .1))
 resolvent-makes ws x y l (Err e) hx hy h = h
 
 -- ---- rewriting, entering, staying
 
 pub rewritten-lawful : (ws : List Wait) (x : Line) → lawfulLine ws (rewrittenLine x) ≡ true
-rewritten-lawful ws x = made-lawful ws Global [] (opposites (literals (x .left))) None refl refl (opposites-ascend (literals (x .left))) refl
+rewritten-lawful ws x = made-lawful ws Global [] (opposites (literals (x .left))) None refl refl (opposites-ascend (literals (x .left))) refl refl
 
 pub entered-lawful : (ws : List Wait) (x : Line) (g w : Literal) → lawfulLine ws (enteredLine x g w) ≡ true
-entered-lawful ws x g w = made-lawful ws Global [] (enteredRight x g w) None refl refl (join-ascends (opposites (literals (x .left))) (join (g ∷ []) (w ∷ [])) (pair-ascends g w)) refl
+entered-lawful ws x g w = made-lawful ws Global [] (enteredRight x g w) None refl refl (join-ascends (opposites (literals (x .left))) (join (g ∷ []) (w ∷ [])) (pair-ascends g w)) refl refl
 
 pub stayed-lawful : (ws : List Wait) (s : Scope) (g w : Literal) → lawfulLine ws (stayedLine s g w) ≡ true
-stayed-lawful ws s g w = made-lawful ws (Step s) (w ∷ []) (join (g ∷ []) (w ∷ [])) None refl refl (pair-ascends g w) refl
+stayed-lawful ws s g w = made-lawful ws (Step s) (w ∷ []) (join (g ∷ []) (w ∷ [])) None refl refl (pair-ascends g w) refl refl
 
 -- the left of a line that waits leaves two places
 waits-left : (kind : Kind) (right : List Literal) (w : Wait) → waitFor kind right ≡ Some w → mostLeft kind ≡ 14
@@ -153,7 +188,7 @@ mapped-twice f None = refl
 mapped-twice f (Some n) = refl
 
 -- a line that waits has a clause of its wait, made with the wait's literal
-wait-clause : (ws : List Wait) (x : Line) (w : Wait) (v : Literal) (f : Wait → Literal → Line) → waitOf x ≡ Some w → Some v ≡ mapped waitLiteral (placeOf ws w) → Some (f w v) ≡ andThen (waitOf x) (λ u. mapped (λ n. f u (waitLiteral n)) (placeOf ws u))
+pub wait-clause : (ws : List Wait) (x : Line) (w : Wait) (v : Literal) (f : Wait → Literal → Line) → waitOf x ≡ Some w → Some v ≡ mapped waitLiteral (placeOf ws w) → Some (f w v) ≡ andThen (waitOf x) (λ u. mapped (λ n. f u (waitLiteral n)) (placeOf ws u))
 wait-clause ws x w v f waits given =
     ap (mapped (f w)) given ∙ sym (mapped-twice (f w) (placeOf ws w)) ∙ sym (ap (λ o. andThen o (λ u. mapped (λ n. f u (waitLiteral n)) (placeOf ws u))) waits)
 

@@ -8,6 +8,7 @@ ghost use Rattle.std.specs.Results.{Cases};
 ghost use Rattle.std.specs.declared.option.Option.the-variants.{None, Some};
 ghost use Rattle.clauses.specs.Refusals.{firstOf, numberOf};
 ghost use Rattle.clauses.specs.Steps.{proper, rewrittenLine};
+ghost use Rattle.inspection.specs.Accepted.{ByCalculus, Entering, Resolving, Rewriting, Staying};
 ghost use Rattle.inspection.specs.Calls.{Call, Makes, after, answer, enteredOf, lineAt, resolveCauses, resolvedOf, rewriteCauses, stayedOf, toldLine, waitCauses};
 ghost use Rattle.inspection.specs.Models.{modelOf, overlay};
 use clauses::Line;
@@ -103,6 +104,7 @@ impl<'a> Inspection<'a> {
         ensures after { λ _. ⌜ modelOf (now (self .exit)) ≡ after (modelOf (now (self .entry))) (Call.resolve a b literal) ⌝ }
         ensures table { λ _. ⌜ now (self .exit) .lines .now ≡ overlay (modelOf (now (self .exit)) .lines) (now (self .entry) .lines .now) ⌝ }
         ensures lent { λ _. ⌜ name (now (self .exit) .lines) ≡ name (now (self .entry) .lines) ⌝ }
+        ensures calculus { λ r. ⌜ ByCalculus r (modelOf (now (self .entry))) (modelOf (now (self .exit))) (Resolving (modelOf (now (self .entry))) a b literal) ⌝ }
     {
         let line = self.resolving(a, b, literal)?;
         self.store(line)
@@ -114,6 +116,7 @@ impl<'a> Inspection<'a> {
         ensures after { λ _. ⌜ modelOf (now (self .exit)) ≡ after (modelOf (now (self .entry))) (Call.rewrite number) ⌝ }
         ensures table { λ _. ⌜ now (self .exit) .lines .now ≡ overlay (modelOf (now (self .exit)) .lines) (now (self .entry) .lines .now) ⌝ }
         ensures lent { λ _. ⌜ name (now (self .exit) .lines) ≡ name (now (self .entry) .lines) ⌝ }
+        ensures calculus { λ r. ⌜ ByCalculus r (modelOf (now (self .entry))) (modelOf (now (self .exit))) (Rewriting (modelOf (now (self .entry))) number) ⌝ }
     {
         let line = self.rewriting(number)?;
         self.store(line)
@@ -125,6 +128,7 @@ impl<'a> Inspection<'a> {
         ensures after { λ _. ⌜ modelOf (now (self .exit)) ≡ after (modelOf (now (self .entry))) (Call.enter number) ⌝ }
         ensures table { λ _. ⌜ now (self .exit) .lines .now ≡ overlay (modelOf (now (self .exit)) .lines) (now (self .entry) .lines .now) ⌝ }
         ensures lent { λ _. ⌜ name (now (self .exit) .lines) ≡ name (now (self .entry) .lines) ⌝ }
+        ensures calculus { λ r. ⌜ ByCalculus r (modelOf (now (self .entry))) (modelOf (now (self .exit))) (Entering (modelOf (now (self .entry))) number) ⌝ }
     {
         let line = self.entering(number)?;
         self.store(line)
@@ -136,6 +140,7 @@ impl<'a> Inspection<'a> {
         ensures after { λ _. ⌜ modelOf (now (self .exit)) ≡ after (modelOf (now (self .entry))) (Call.stay number) ⌝ }
         ensures table { λ _. ⌜ now (self .exit) .lines .now ≡ overlay (modelOf (now (self .exit)) .lines) (now (self .entry) .lines .now) ⌝ }
         ensures lent { λ _. ⌜ name (now (self .exit) .lines) ≡ name (now (self .entry) .lines) ⌝ }
+        ensures calculus { λ r. ⌜ ByCalculus r (modelOf (now (self .entry))) (modelOf (now (self .exit))) (Staying (modelOf (now (self .entry))) number) ⌝ }
     {
         let line = self.staying(number)?;
         self.store(line)
