@@ -15,12 +15,12 @@ use Rattle.fields.specs.declared.walk.Reader.{Reader}
 use Rattle.inspection.specs.Calls.{answer, verdict}
 use Rattle.inspection.specs.declared.state.Inspection.{Inspection}
 use Rattle.inspection.specs.Models.{modelOf, overlay}
-use Rattle.inspection.proofs.Overlays.{overlay-same, overlay-twice}
+use Rattle.inspection.proofs.Overlays.{overlay-same}
 use Rattle.run.specs.Files.{itemsFrom, itemsOf}
 use Rattle.run.specs.Runs.{afterWork}
 use Rattle.run.specs.Steps.{Written, leftAhead, linesAhead}
 use Rattle.run.specs.Text.{verdictText, workText}
-use Rattle.run.proofs.Taking.{some-left}
+use Rattle.run.proofs.Taking.{laid, some-left}
 
 -- what holds anyway holds where there is a result
 pub made-so : {X E : Type 0} (r : Result X E) {P : Type 0} → P → made r (λ _. P)
@@ -66,10 +66,6 @@ start work before s r file bytes first =
     }
 
 module _ {work before : List ℕ} {s₀ : Inspection} {r : Reader} {s : Inspection} {text : List ℕ} {n : ℕ} (h : Sofar work before s₀ r s text n) where
-  -- the table, whatever came next
-  pub laid : (s′ : Inspection) → length (modelOf s .lines) ≤ length (modelOf s′ .lines) → s′ .lines .now ≡ overlay (modelOf s′ .lines) (s .lines .now) → s′ .lines .now ≡ overlay (modelOf s′ .lines) (s₀ .lines .now)
-  laid s′ grows table = table ∙ ap (overlay (modelOf s′ .lines)) (h .table) ∙ overlay-twice (modelOf s .lines) (modelOf s′ .lines) (s₀ .lines .now) grows
-
   pub one-more : (r′ : Reader) (s′ : Inspection) (text′ : List ℕ) → r′ .bytes .now ≡ r .bytes .now → r′ .source ≡ r .source → length (modelOf s .lines) ≤ length (modelOf s′ .lines) → s′ .lines .now ≡ overlay (modelOf s′ .lines) (s .lines .now) → name (s′ .lines) ≡ name (s .lines) → Written true n text text′ r (modelOf s) r′ (modelOf s′) → Sofar work before s₀ r′ s′ text′ (n + 1)
   one-more r′ s′ text′ bytes file grows table lent wrote =
       let w = h .lines in
@@ -88,7 +84,7 @@ module _ {work before : List ℕ} {s₀ : Inspection} {r : Reader} {s : Inspecti
           sym (wrote .2 (i .0)) ∙ ap (λ j. leftAhead j r (modelOf s)) (sym (i .1)) ∙ w .3,
         );
         grows = omega (arith, h .grows);
-        table = laid s′ grows table;
+        table = laid s₀ s s′ (h .table) grows table;
         lent = lent ∙ h .lent;
       }
 

@@ -34,6 +34,10 @@ pub some-left : (n p j : ℕ) → p ≤ n → n < p + j → (i : ℕ) × (j ≡ 
 some-left n p zero h k = absurd (omega arith)
 some-left n p (suc i) h k = (i, refl)
 
+-- a table that was laid over twice is laid over by the later lines
+pub laid : (s₀ s s′ : Inspection) → s .lines .now ≡ overlay (modelOf s .lines) (s₀ .lines .now) → length (modelOf s .lines) ≤ length (modelOf s′ .lines) → s′ .lines .now ≡ overlay (modelOf s′ .lines) (s .lines .now) → s′ .lines .now ≡ overlay (modelOf s′ .lines) (s₀ .lines .now)
+laid s₀ s s′ before grows table = table ∙ ap (overlay (modelOf s′ .lines)) before ∙ overlay-twice (modelOf s .lines) (modelOf s′ .lines) (s₀ .lines .now) grows
+
 pub start : (r : Reader) (s : Inspection) → r .source ≡ source.Book → 0 < r .place → r .place ≤ length (r .bytes .now) → Sofar r s r s 0
 start r s book begun within =
     record {
@@ -55,9 +59,6 @@ module _ {r₀ : Reader} {s₀ : Inspection} {r : Reader} {s : Inspection} {n : 
       let i = some-left _ _ (w .0) (h .within) (w .1) in
       w .2 ∙ ap (λ j. ahead j r (modelOf s) n) (i .1) ∙ step (i .0)
 
-  pub laid : (s′ : Inspection) → length (modelOf s .lines) ≤ length (modelOf s′ .lines) → s′ .lines .now ≡ overlay (modelOf s′ .lines) (s .lines .now) → s′ .lines .now ≡ overlay (modelOf s′ .lines) (s₀ .lines .now)
-  laid s′ grows table = table ∙ ap (overlay (modelOf s′ .lines)) (h .table) ∙ overlay-twice (modelOf s .lines) (modelOf s′ .lines) (s₀ .lines .now) grows
-
   pub one-more : (r′ : Reader) (s′ : Inspection) → r′ .bytes .now ≡ r .bytes .now → r′ .source ≡ r .source → r .place < r′ .place → r′ .place ≤ length (r .bytes .now) → length (modelOf s .lines) ≤ length (modelOf s′ .lines) → s′ .lines .now ≡ overlay (modelOf s′ .lines) (s .lines .now) → name (s′ .lines) ≡ name (s .lines) → ((k m : ℕ) → ahead (suc k) r (modelOf s) m ≡ ahead k r′ (modelOf s′) (m + 1)) → Sofar r₀ s₀ r′ s′ (n + 1)
   one-more r′ s′ bytes file on within grows table lent step =
       let long = ap length bytes in
@@ -72,7 +73,7 @@ module _ {r₀ : Reader} {s₀ : Inspection} {r : Reader} {s : Inspection} {n : 
             let i = some-left _ _ (w .0) (h .within) (w .1) in
             let left : length (r′ .bytes .now) < r′ .place + i .0 = omega (arith, w .1, i .1) in
             (i .0, left, w .2 ∙ ap (λ j. ahead j r (modelOf s) n) (i .1) ∙ step (i .0) n);
-        table = laid s′ grows table;
+        table = laid s₀ s s′ (h .table) grows table;
         lent = lent ∙ h .lent;
       }
 

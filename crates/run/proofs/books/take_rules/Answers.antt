@@ -29,7 +29,7 @@ returns-in-rest c =
     record {
       file = tt;
       rules = ends h _ (λ k. step k (c .loop-taken .count));
-      table = laid h (c .next-rule .last .inspection) (next .grows) (next .table);
+      table = laid (c .args .inspection .now) (c .loop-taken .inspection) (c .next-rule .last .inspection) (h .table) (next .grows) (next .table);
       lent = next .lent ∙ h .lent;
     }
 
@@ -40,6 +40,6 @@ returns-in-Err c =
     record {
       file = refl;
       rules = ends h _ (λ k. next .step k (c .loop-taken .count) ∙ ap (stopped (modelOf (c .next-rule .last .inspection) .lines) (refusedNumber (c .in-Err .refused))) (sym (c .place-offset .ensures)));
-      table = laid h (c .next-rule .last .inspection) (next .grows) (next .table);
+      table = laid (c .args .inspection .now) (c .loop-taken .inspection) (c .next-rule .last .inspection) (h .table) (next .grows) (next .table);
       lent = next .lent ∙ h .lent;
     }

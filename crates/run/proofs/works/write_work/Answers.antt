@@ -8,7 +8,8 @@ use Rattle.fields.specs.declared.shapes.Source.the-variants as source
 use Rattle.inspection.specs.Models.{modelOf}
 use Rattle.run.specs.Steps.{Written}
 use Rattle.run.specs.Text.{verdictText}
-use Rattle.run.proofs.Going.{laid, last-left, last-line, made-so, one-more, start}
+use Rattle.run.proofs.Going.{last-left, last-line, made-so, one-more, start}
+use Rattle.run.proofs.Taking.{laid}
 use Rattle.run.proofs.works.write_work.Needs as need
 
 pub loop-more-holds : need.loop-more-holds
@@ -31,7 +32,7 @@ returns-in-Break-more c =
       text = made-from-err (c .from-residual .result) _ failed;
       left = made-from-err (c .from-residual .result) _ failed;
       grows = omega (arith, h .grows, next .grows);
-      table = laid h (c .write-next .last .inspection) (next .grows) (next .table);
+      table = laid (c .args .inspection .now) (c .loop-more .inspection) (c .write-next .last .inspection) (h .table) (next .grows) (next .table);
       lent = next .lent ∙ h .lent;
     }
 
@@ -47,6 +48,6 @@ returns-then-not-more c =
       text = made-weaker (c .write-verdict .result) _ _ (λ _ e. e ∙ ap (λ a. text′ ++ verdictText a) (c .verdict .ensures .answer) ∙ last-line h r′ s′ text′ wrote) (c .write-verdict .ensures);
       left = made-so (c .write-verdict .result) (last-left h r′ s′ text′ wrote);
       grows = omega (arith, h .grows, next .grows);
-      table = laid h s′ (next .grows) (next .table);
+      table = laid (c .args .inspection .now) (c .loop-more .inspection) s′ (h .table) (next .grows) (next .table);
       lent = next .lent ∙ h .lent;
     }
