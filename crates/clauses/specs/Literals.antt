@@ -1,17 +1,20 @@
 -- Literals: their order, which is that of their numbers, and their opposites. Assumes nothing.
 use Rattle.std.specs.Prelude.{◌≡◌, ◌+◌, ◌-◌, ◌%◌, ◌<◌, Bool, cond, ◌==◌}
 use Rattle.std.specs.declared.cmp.Ordering.{Ordering}
-use Rattle.std.specs.Cmp.Derive.{on}
-use Rattle.std.specs.Cmp.{IsTotalOrder, nat_cmp_total}
+use Rattle.std.specs.Cmp.{IsTotalOrder, nat_cmp_total, on_total, ranks}
 use Rattle.std.specs.Ordering.{MatchOrdering, nat_cmp}
 use Rattle.clauses.specs.declared.literals.Literal.{Literal}
 
 abbrev pub literal_rank : Literal → Literal → Ordering
 literal_rank x y = nat_cmp x.0 y.0
 
--- the lawful order behind it
-abbrev pub literal_order : IsTotalOrder (λ (x y : Literal) (r : Ordering). MatchOrdering r (x.0 < y.0) (x.0 ≡ y.0) (y.0 < x.0))
-literal_order = on (λ (x : Literal). x.0) nat_cmp_total
+-- it answers by the numbers
+abbrev pub literal_numbers : (x y : Literal) → MatchOrdering (literal_rank x y) (x.0 < y.0) (x.0 ≡ y.0) (y.0 < x.0)
+literal_numbers x y = ranks x.0 y.0
+
+-- and it is lawful
+abbrev pub literal_order : IsTotalOrder literal_rank
+literal_order = on_total (λ (x : Literal). x.0) nat_cmp_total
 
 abbrev pub same : Literal → Literal → Bool
 same x y = x.0 == y.0

@@ -1,8 +1,7 @@
 -- Pairs of numbers, in the order of their fields. Assumes nothing.
 use Rattle.std.specs.Prelude.{◌≡◌, ℕ, ◌<◌}
 use Rattle.std.specs.declared.cmp.Ordering.{Ordering}
-use Rattle.std.specs.Cmp.Derive.{Lex, on, fields}
-use Rattle.std.specs.Cmp.{IsTotalOrder, nat_cmp_total}
+use Rattle.std.specs.Cmp.{IsTotalOrder, nat_cmp_total, on_total, ranks, then_total}
 use Rattle.std.specs.Ordering.{MatchOrdering, ordering_then, nat_cmp}
 use Rattle.ordered.specs.declared.Pair.{Pair}
 
@@ -14,6 +13,10 @@ Numbers x y r = MatchOrdering r (x < y) (x ≡ y) (y < x)
 abbrev pub pair_rank : Pair → Pair → Ordering
 pair_rank p q = ordering_then (nat_cmp p.first q.first) (nat_cmp p.second q.second)
 
+-- each field is compared as a number
+abbrev pub field_order : (x y : ℕ) → Numbers x y (nat_cmp x y)
+field_order x y = ranks x y
+
 -- the order that the fields give is lawful
-abbrev pub pair_order : IsTotalOrder (λ (p q : Pair). Lex (Numbers p.first q.first) (Numbers p.second q.second))
-pair_order = on (λ p. (p.first, p.second)) (fields nat_cmp_total nat_cmp_total)
+abbrev pub pair_order : IsTotalOrder pair_rank
+pair_order = then_total (on_total (λ (p : Pair). p.first) nat_cmp_total) (on_total (λ (p : Pair). p.second) nat_cmp_total)

@@ -1,3 +1,4 @@
+#![tactic(auto)]
 // Lists in ascending order: what is asked of them, once for every element with a total order.
 ghost use Rattle.std.specs.Prelude.{◌≡◌, ◌+◌, ◌<◌, ◌≤◌, true, ◌||◌, [], length, take, drop, IfSome, MatchOption};
 ghost use Rattle.std.specs.declared.cmp.Ordering.TheVariants.{Equal};

@@ -1,7 +1,7 @@
 use Rattle.std.proofs.Common.{◌≡◌, ◌-◌, Bool, true, false, not, Decides, Less, sym, ◌∙◌, subst, arith}
 use Rattle.std.proofs.lemmas.List.Elements.{pair_read}
 use Rattle.std.proofs.lemmas.List.Sorted.{all_adjacent_more}
-use Rattle.std.proofs.lemmas.Bool.{both_ways, not-true, not_false}
+use Rattle.std.proofs.lemmas.Bool.{both_ways, not-true, not-false}
 use Rattle.ordered.proofs.Ascending.{ascending_from_neighbours, not_ascending_at}
 use Rattle.ordered.proofs.ascends.Goals as goal
 
@@ -10,7 +10,7 @@ differs : (P : Type 0) → (x : Bool) × Decides x P × (true ≡ not x) → P �
 differs P e p = both_ways e.0 (not-true e.0 (sym e.2)) (e.1.1 p)
 
 agrees : (P : Type 0) → (x : Bool) × Decides x P × (false ≡ not x) → P
-agrees P e = e.1.0 (not_false e.0 (sym e.2))
+agrees P e = e.1.0 (not-false e.0 (sym e.2))
 
 pub loop-i-init : goal.loop-i-init
 loop-i-init g c = λ k d lt. absurd (omega arith)

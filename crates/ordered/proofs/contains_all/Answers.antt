@@ -18,7 +18,7 @@ pub returns-then-is-none : goal.returns-then-is-none
 returns-then-is-none g c = λ o asc. sym (turn g (goal.at.returns-then-is-none g c).After-find o false asc c.if-is-none.ensures)
 
 pub loop-wanted-preserved : goal.loop-wanted-preserved
-loop-wanted-preserved g c = λ o asc. turn g (goal.at.loop-wanted-preserved g c).After-find o true asc c.if-is-none.ensures
+loop-wanted-preserved g c = λ o asc. turn g (goal.at.loop-wanted-preserved g c).After-find o true asc c.if-is_none.ensures
 
 pub returns : goal.returns
 returns g c = λ o asc.

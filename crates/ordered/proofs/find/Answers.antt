@@ -7,10 +7,10 @@ pub returns : goal.returns
 returns g c =
     let items = c.args.items.now in
     let wanted = c.args.wanted.now in
-    let told = c.binary-search.ensures in
+    let told = c.binary_search.ensures in
     let same = c.ok.ensures.value in
     record {
       there = subst (λ r. IfSome r (λ i. (i < length items) × HoldsAt (λ x. Equal ≡ g.T.Ord.cmp x wanted) items i)) (sym same)
-          (found_there (λ x. Equal ≡ g.T.Ord.cmp x wanted) items c.binary-search.result told.bound told.ok);
-      is = λ o asc. same ∙ search_place o items wanted c.binary-search.result told.bound told.position asc;
+          (found_there (λ x. Equal ≡ g.T.Ord.cmp x wanted) items c.binary_search.result told.bound told.ok);
+      is = λ o asc. same ∙ search_place o items wanted c.binary_search.result told.bound told.position asc;
     }

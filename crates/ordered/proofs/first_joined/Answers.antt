@@ -29,7 +29,7 @@ pub returns-in-Less : goal.returns-in-Less
 returns-in-Less g c = record {
   less = omega (arith, c.in-Some-Some.ensures.cases.1);
   leads = λ o.
-      leads-less o c.args.a.now c.args.b.now c.in-Some-Some.x.now c.in-Some-Some.y.now c.in-Some-Some.rest-a.now c.in-Some-Some.rest-b.now
+      leads-less o c.args.a.now c.args.b.now c.in-Some-Some.x.now c.in-Some-Some.y.now c.in-Some-Some.rest_a.now c.in-Some-Some.rest_b.now
       c.in-Some-Some.ensures.cases.0 c.in-Some-Some.ensures'.cases.0
       (sym c.in-Less.ensures);
 }
@@ -38,7 +38,7 @@ pub returns-in-Equal : goal.returns-in-Equal
 returns-in-Equal g c = record {
   less = omega (arith, c.in-Some-Some.ensures.cases.1, c.in-Some-Some.ensures'.cases.1);
   leads = λ o.
-      leads-equal o c.args.a.now c.args.b.now c.in-Some-Some.x.now c.in-Some-Some.y.now c.in-Some-Some.rest-a.now c.in-Some-Some.rest-b.now
+      leads-equal o c.args.a.now c.args.b.now c.in-Some-Some.x.now c.in-Some-Some.y.now c.in-Some-Some.rest_a.now c.in-Some-Some.rest_b.now
       c.in-Some-Some.ensures.cases.0 c.in-Some-Some.ensures'.cases.0
       (sym c.in-Equal.ensures);
 }
@@ -47,7 +47,7 @@ pub returns-in-Greater : goal.returns-in-Greater
 returns-in-Greater g c = record {
   less = omega (arith, c.in-Some-Some.ensures'.cases.1);
   leads = λ o.
-      leads-greater o c.args.a.now c.args.b.now c.in-Some-Some.x.now c.in-Some-Some.y.now c.in-Some-Some.rest-a.now c.in-Some-Some.rest-b.now
+      leads-greater o c.args.a.now c.args.b.now c.in-Some-Some.x.now c.in-Some-Some.y.now c.in-Some-Some.rest_a.now c.in-Some-Some.rest_b.now
       c.in-Some-Some.ensures.cases.0 c.in-Some-Some.ensures'.cases.0
       (sym c.in-Greater.ensures);
 }

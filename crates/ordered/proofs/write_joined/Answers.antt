@@ -17,7 +17,7 @@ loop-i-preserved g c = (
   λ o h k.
       let inv = c.loop-i.invariant.1 o h k in
       let next = c.in-Some.ensures.leads o inv.1 inv.2 in (
-        leads_written g.T.Ord.cmp c.loop-i.a.now c.loop-i.b.now c.in-Some.first.now c.in-Some.rest-a.now c.in-Some.rest-b.now next
+        leads_written g.T.Ord.cmp c.loop-i.a.now c.loop-i.b.now c.in-Some.first.now c.in-Some.rest_a.now c.in-Some.rest_b.now next
             (union g.T.Ord.cmp c.args.a.now c.args.b.now) c.loop-i.out c.loop-i.i (omega arith) inv.0,
         next.1,
         next.2,
