@@ -38,7 +38,7 @@ pub fn pairs_ascend(items: &[Pair]) -> bool
 
 // Where an ascending list has the element that ties with `wanted`.
 pub fn find<T: Ord>(items: &[T], wanted: &T) -> Option<usize>
-    ensures there { IfSome result (λ i. (i < length items.now) × HoldsAt (λ x. Equal ≡ T.Ord.cmp x wanted.now) items.now i) }
+    ensures there { IfSome result (λ i. (i < length items.now) × HoldsAt (λ x. T.Ord.cmp x wanted.now ≡ Equal) items.now i) }
     ensures is { (o : IsTotalOrder T.Ord.cmp) → ascending T.Ord.cmp items.now ≡ true → result ≡ place T.Ord.cmp items.now wanted.now }
 {
     items.binary_search(wanted).ok()

@@ -14,8 +14,8 @@ turn g c o b asc told =
     ∙ within_more g.T.Ord.cmp c.args.inner.now c.args.outer.now c.loop-wanted.wanted-index c.wanted-item.result b c.loop-wanted-test.true c.wanted-item.is
     (holds_from_place g.T.Ord.cmp c.args.outer.now c.wanted-item.result c.find.result b (c.find.ensures.is o asc) told)
 
-pub returns-then-is-none : goal.returns-then-is-none
-returns-then-is-none g c = λ o asc. sym (turn g (goal.at.returns-then-is-none g c).After-find o false asc c.if-is-none.ensures)
+pub returns-then-is_none : goal.returns-then-is_none
+returns-then-is_none g c = λ o asc. sym (turn g (goal.at.returns-then-is_none g c).After-find o false asc c.if-is_none.ensures)
 
 pub loop-wanted-preserved : goal.loop-wanted-preserved
 loop-wanted-preserved g c = λ o asc. turn g (goal.at.loop-wanted-preserved g c).After-find o true asc c.if-is_none.ensures

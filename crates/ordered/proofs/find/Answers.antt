@@ -10,7 +10,7 @@ returns g c =
     let told = c.binary_search.ensures in
     let same = c.ok.ensures.value in
     record {
-      there = subst (λ r. IfSome r (λ i. (i < length items) × HoldsAt (λ x. Equal ≡ g.T.Ord.cmp x wanted) items i)) (sym same)
-          (found_there (λ x. Equal ≡ g.T.Ord.cmp x wanted) items c.binary_search.result told.bound told.ok);
+      there = subst (λ r. IfSome r (λ i. (i < length items) × HoldsAt (λ x. g.T.Ord.cmp x wanted ≡ Equal) items i)) (sym same)
+          (found_there (λ x. g.T.Ord.cmp x wanted ≡ Equal) items c.binary_search.result told.bound told.ok);
       is = λ o asc. same ∙ search_place o items wanted c.binary_search.result told.bound told.position asc;
     }

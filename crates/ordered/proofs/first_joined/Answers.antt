@@ -1,4 +1,4 @@
-use Rattle.std.proofs.Common.{Less, Equal, Greater, sym, arith}
+use Rattle.std.proofs.Common.{sym, arith}
 use Rattle.std.proofs.lemmas.List.{nil_from_length}
 use Rattle.ordered.proofs.Uniting.{leads-left, leads-right, leads-less, leads-equal, leads-greater, union_none}
 use Rattle.ordered.proofs.first_joined.Goals as goal

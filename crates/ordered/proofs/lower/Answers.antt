@@ -7,7 +7,7 @@ returns-in-Ok g c =
     let told = c.in-Ok.ensures in
     record {
       within = omega (arith, told.bound);
-      is = λ o asc. lower_found o _ _ _ told.bound (told.position o) asc;
+      is = λ o asc. lower_found o _ _ _ told.bound told.position asc;
     }
 
 pub returns-in-Err : goal.returns-in-Err
@@ -15,5 +15,5 @@ returns-in-Err g c =
     let told = c.in-Err.ensures in
     record {
       within = told.bound;
-      is = λ o asc. lower_missed o _ _ _ told.bound (told.position o) asc;
+      is = λ o asc. lower_missed o _ _ _ told.bound told.position asc;
     }
