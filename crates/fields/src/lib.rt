@@ -1,4 +1,6 @@
 // The reader: the fields of a file, shown over the bytes it was lent, and why one is refused.
+#![tactic(auto)]
+
 pub mod flaws;
 mod layouts;
 pub mod shapes;

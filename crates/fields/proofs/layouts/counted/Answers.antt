@@ -9,7 +9,7 @@ returns c =
     let bs = c.args.bytes.now in
     let count : get_or bs 0 0 < 256 = omega arith in
     record {
-      value = cut_is _ _ c.split-at-checked.result c.split-at-checked.ensures.cases ∙ ap (cut (2 * get_or bs 0 0)) (take_rest bs 1) ∙ counted_is bs (search rules);
-      short = cut_short _ _ 510 c.split-at-checked.result c.split-at-checked.ensures.cases (omega arith);
-      whole = cut_paired _ _ c.split-at-checked.result c.split-at-checked.ensures.cases;
+      value = cut_is _ _ c.split_at_checked.result c.split_at_checked.ensures.cases ∙ ap (cut (2 * get_or bs 0 0)) (take_rest bs 1) ∙ counted_is bs (search rules);
+      short = cut_short _ _ 510 c.split_at_checked.result c.split_at_checked.ensures.cases (omega arith);
+      whole = cut_paired _ _ c.split_at_checked.result c.split_at_checked.ensures.cases;
     }

@@ -6,10 +6,10 @@ use Rattle.fields.proofs.layouts.last_pairs.Goals as goal
 
 pub returns : goal.returns
 returns c =
-    let ps = c.in-ok-listed.listed.now in
-    let rest = c.in-ok-listed.rest.now in
-    let all = c.in-ok-listed.ensures in
-    let empty = c.if-not-is-empty.ensures in
+    let ps = c.in_ok-listed.listed.now in
+    let rest = c.in_ok-listed.rest.now in
+    let all = c.in_ok-listed.ensures in
+    let empty = c.if-not-is_empty.ensures in
     let none : rest ≡ [] = nil_from_length rest (search rules) in
     record {
       value = ap (λ b. cond b (Some ps) None) empty ∙ last_is c.args.bytes.now ps rest all.value;

@@ -8,7 +8,7 @@ use Rattle.fields.proofs.layouts.line_field.Goals as goal
 pub returns : goal.returns
 returns c =
     let v = c.args.value.now in
-    let is = c.from-be-bytes.ensures in
+    let is = c.from_be_bytes.ensures in
     let two : length v ≡ 2 = search rules in
     let low : get_or v 1 0 < 256 = omega arith in
     record {

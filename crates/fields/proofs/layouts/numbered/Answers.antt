@@ -7,7 +7,7 @@ use Rattle.fields.proofs.layouts.numbered.Goals as goal
 pub returns : goal.returns
 returns c =
     let bs = c.args.bytes.now in
-    let is = c.from-be-bytes.ensures in
+    let is = c.from_be_bytes.ensures in
     let two : 2 ≤ length bs = search rules in
     let low : get_or bs 1 0 < 256 = omega arith in
     record {

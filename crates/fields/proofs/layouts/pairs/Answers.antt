@@ -4,10 +4,10 @@ use Rattle.fields.proofs.layouts.pairs.Goals as goal
 
 pub returns : goal.returns
 returns c =
-    let first = c.in-ok-count.ensures in
-    let cases = c.split-at-checked.ensures.cases in
+    let first = c.in_ok-count.ensures in
+    let cases = c.split_at_checked.ensures.cases in
     record {
-      value = cut_is _ _ c.split-at-checked.result cases ∙ pairs_is c.args.bytes.now _ _ first.value;
-      sound = pairs_part _ c.args.bytes.now _ c.split-at-checked.result cases first.sound;
-      whole = pairs_whole _ _ c.split-at-checked.result cases (search rules);
+      value = cut_is _ _ c.split_at_checked.result cases ∙ pairs_is c.args.bytes.now _ _ first.value;
+      sound = pairs_part _ c.args.bytes.now _ c.split_at_checked.result cases first.sound;
+      whole = pairs_whole _ _ c.split_at_checked.result cases (search rules);
     }

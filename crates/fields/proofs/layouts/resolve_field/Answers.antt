@@ -8,9 +8,9 @@ use Rattle.fields.proofs.layouts.resolve_field.Goals as goal
 pub returns : goal.returns
 returns c =
     let v = c.args.value.now in
-    let a = c.from-be-bytes-a.ensures in
-    let b = c.from-be-bytes-b.ensures in
-    let l = c.from-be-bytes-literal.ensures in
+    let a = c.from_be_bytes-a.ensures in
+    let b = c.from_be_bytes-b.ensures in
+    let l = c.from_be_bytes-literal.ensures in
     let six : length v ≡ 6 = search rules in
     let la : get_or v 1 0 < 256 = omega arith in
     let lb : get_or v 3 0 < 256 = omega arith in

@@ -6,15 +6,15 @@ use Rattle.fields.proofs.layouts.table_plan_field.Goals as goal
 pub returns : goal.returns
 returns c =
     let v = c.args.value.now in
-    let n = c.in-ok-states.states in
-    let targets = c.in-ok-targets.targets in
-    let truths = c.in-ok-truths.truths.now in
-    let moves = c.in-ok-moves.moves.now in
-    let first = c.in-ok-states.ensures in
-    let apart = c.in-ok-targets.ensures.cases in
-    let third = c.in-ok-truths.ensures in
-    let last = c.in-ok-moves.ensures in
-    let cut : Bor (List ℕ) × Bor (List ℕ) = (targets, c.in-ok-targets.rest) in
+    let n = c.in_ok-states.states in
+    let targets = c.in_ok-targets.targets in
+    let truths = c.in_ok-truths.truths.now in
+    let moves = c.in_ok-moves.moves.now in
+    let first = c.in_ok-states.ensures in
+    let apart = c.in_ok-targets.ensures.cases in
+    let third = c.in_ok-truths.ensures in
+    let last = c.in_ok-moves.ensures in
+    let cut : Bor (List ℕ) × Bor (List ℕ) = (targets, c.in_ok-targets.rest) in
     let after = apart_whole _ _ cut apart ∙ ap (λ xs. targets.now ++ xs) (third.sound ∙ ap (λ xs. pair_bytes truths ++ xs) last.sound) in
     let whole : v ≡ plan_bytes n targets.now truths moves = first.sound ∙ ap (λ xs. number_bytes n ++ xs) after in
     record {

@@ -73,12 +73,12 @@ module _ (c : In-Some) where
       let inside = c.if-offset-bytes.false in
       omega (arith, length-drop self.place self.bytes.now, ap length front, length-append v (drop (self.place + 3 + length v) self.bytes.now))
 
-pub returns-in-default : goal.returns-in-default
-returns-in-default c =
+pub returns-in_default : goal.returns-in_default
+returns-in_default c =
     let self = c.args.self.now in
     let bs = self.bytes.now in
     let inside = c.if-offset-bytes.false in
-    let parts = c.in-default.ensures.value ∙ ap split (take_rest bs self.place) in
+    let parts = c.in_default.ensures.value ∙ ap split (take_rest bs self.place) in
     let value = parse_broken self.source bs self.place inside parts in
     record {
       value = value;
