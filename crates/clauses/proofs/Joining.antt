@@ -38,8 +38,8 @@ fitting_side xs places n e front rest = by-test (leb (length xs) 16) e
 pub literals_of : (xs : List Literal) → literals (side_of xs) ≡ xs
 literals_of xs = take_at xs (replicate (16 - length xs) zero) (length xs) refl
 
-pub side_for : (xs : List Literal) → length xs ≤ 16 → side_for xs ≡ Some (side_of xs)
-side_for xs h = ap (λ b. cond b (Some (side_of xs)) None) (le-leb (length xs) 16 h)
+pub side_fits : (xs : List Literal) → length xs ≤ 16 → side_for xs ≡ Some (side_of xs)
+side_fits xs h = ap (λ b. cond b (Some (side_of xs)) None) (le-leb (length xs) 16 h)
 
 -- laying in one more
 pub insert_length : (x : Literal) (ys : List Literal) → length (insert literal_rank x ys) ≤ suc (length ys)
@@ -69,7 +69,7 @@ no_opposite [] none = refl
 no_opposite (x ∷ xs) none = absurd (omega arith)
 
 pub one_fits : (x : Literal) (ys : List Literal) → length ys < 16 → side_for (insert literal_rank x ys) ≡ Some (side_of (insert literal_rank x ys))
-one_fits x ys few = side_for (insert literal_rank x ys) (omega (arith, insert_length x ys))
+one_fits x ys few = side_fits (insert literal_rank x ys) (omega (arith, insert_length x ys))
 
 -- the next literal stays, or it is the one that goes
 module _ (gone : Literal) (xs : List Literal) (i : ℕ) (h : i < length xs) where

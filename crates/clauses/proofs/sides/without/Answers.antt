@@ -2,7 +2,7 @@ use Rattle.std.proofs.Common.{◌≡◌, ℕ, ◌+◌, ◌-◌, ◌<◌, ◌≤�
 use Rattle.std.proofs.lemmas.List.{at_drop_all}
 use Rattle.clauses.specs.Lines.{side_for, side_of}
 use Rattle.clauses.specs.Sides.{without}
-use Rattle.clauses.proofs.Joining.{goes, side_for, stays_on}
+use Rattle.clauses.proofs.Joining.{goes, side_fits, stays_on}
 use Rattle.clauses.proofs.sides.without.Goals as goal
 use Rattle.clauses.proofs.sides.without.Goals.{then-x-gone, else-x-gone}
 
@@ -40,6 +40,6 @@ returns c =
     let all : n - 0 ≡ n = omega arith in
     let few : length front ≤ 16 = omega (arith, length-take (n - 0) c.loop-x.stays, so.2) in
     let is : front ≡ without gone xs = ap (λ k. take k c.loop-x.stays) all ∙ sym (append-nil _) ∙ ap (λ l. take n c.loop-x.stays ++ l) (sym (at_drop_all (without gone) xs c.loop-x.x-index c.loop-x-test.false)) ∙ so.0 in
-    let both : Some c.unwrap.result ≡ Some (side_of front) = sym c.unwrap.ensures ∙ c.of.ensures ∙ side_for front few in
+    let both : Some c.unwrap.result ≡ Some (side_of front) = sym c.unwrap.ensures ∙ c.of.ensures ∙ side_fits front few in
     let same : c.unwrap.result ≡ side_of front = cc in
     same ∙ ap side_of is

@@ -12,4 +12,4 @@ returns c =
     let rest : drop (length xs - 0) (replicate 16 zero) ≡ replicate (16 - length xs) zero = ap (λ n. drop n (replicate 16 zero)) none ∙ drop-replicate (length xs) 16 zero in
     let fits = le-leb (length xs) 16 c.if-n-gt-PLACES.false in
     let side : List Literal → Side = λ ys. record { count = length xs; places = ys } in
-    ap (λ ys. Some (side ys)) ((λ i. c.copy-from-slice.ensures.after i ++ rest i)) ∙ sym (ap (λ b. cond b (Some (side_of xs)) None) fits)
+    ap (λ ys. Some (side ys)) ((λ i. c.copy_from_slice.ensures.after i ++ rest i)) ∙ sym (ap (λ b. cond b (Some (side_of xs)) None) fits)
