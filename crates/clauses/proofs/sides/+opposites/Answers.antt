@@ -23,8 +23,8 @@ module _ (t : ℕ) (c : After-joined t) where
       let few : length c.literals.result.now < 16 = omega (arith, ap length others, opposites_length (drop 1 c.args.items.now), length-drop 1 c.args.items.now, some) in
       c.joined.ensures refl up ∙ one_fits c.opposite.result c.literals.result.now few
 
-pub returns-in-default : goal.returns-in-default
-returns-in-default t c = no_opposite c.args.items.now (search rules)
+pub returns-in_default : goal.returns-in_default
+returns-in_default t c = no_opposite c.args.items.now (search rules)
 
 pub unwrap-requires : goal.unwrap-requires
 unwrap-requires t c = ap is_some (laid t (goal.at.unwrap-requires t c).After-joined)
