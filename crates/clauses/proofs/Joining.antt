@@ -1,8 +1,8 @@
 -- Sides made from lists: what has place, what stays, and how opposites are laid in. Assumes nothing.
-use Rattle.std.proofs.Common.{◌≡◌, ℕ, suc, ◌+◌, ◌-◌, ◌<◌, ◌≤◌, Bool, true, false, cond, leb, List, [], ◌∷◌, ◌++◌, length, get_or, take, drop, set, replicate, Some, None, Option, Less, sym, refl, ap, ◌∙◌, subst, true≢false, append_assoc, arith, eq-eqb, ne_eqb, le-leb}
+use Rattle.std.proofs.Common.{◌≡◌, ℕ, suc, ◌+◌, ◌-◌, ◌<◌, ◌≤◌, Bool, true, false, cond, leb, List, [], ◌∷◌, ◌++◌, length, get_or, take, drop, set, replicate, Some, None, Less, sym, refl, ap, ◌∙◌, append_assoc, arith, eq-eqb, ne_eqb, le-leb}
 use Rattle.std.proofs.lemmas.List.{at_drop_more, drop-replicate, take-append-drop, take_at, take_more_set}
 use Rattle.std.specs.Ordering.{is_eq, is_lt}
-use Rattle.ordered.specs.Unions.{fitting, insert, union}
+use Rattle.ordered.specs.Unions.{fitting, insert}
 use Rattle.std.specs.List.{AllByRecursion as All}
 use Rattle.ordered.proofs.Ascending.{ascending_cons, ascending_head, ascending_tail}
 use Rattle.ordered.proofs.Uniting.{insert_ascends, union_ascends, union_none}

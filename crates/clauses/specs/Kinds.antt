@@ -1,5 +1,5 @@
 -- The kind that a number and an index name, and the kinds that resolve with one another. Assumes nothing.
-use Rattle.std.specs.Prelude.{ℕ, Bool, true, false, cond, ◌&&◌, Some, None, Option, ◌==◌, nat_lt}
+use Rattle.std.specs.Prelude.{ℕ, Bool, true, cond, ◌&&◌, Some, None, Option, ◌==◌, nat_lt}
 use Rattle.std.specs.Option.{option_map}
 use Rattle.clauses.specs.declared.kinds.Scope.{Scope}
 use Rattle.clauses.specs.declared.kinds.Scope.TheVariants.{All, Index}

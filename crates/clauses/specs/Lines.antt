@@ -1,5 +1,5 @@
 -- The literals of a side, the side of a list of literals, and the lines that no system keeps. Assumes nothing.
-use Rattle.std.specs.Prelude.{ℕ, ◌-◌, Bool, false, cond, List, [], ◌∷◌, ◌++◌, length, take, replicate, Some, None, Option, ◌==◌, nat_le}
+use Rattle.std.specs.Prelude.{◌-◌, Bool, false, cond, List, [], ◌++◌, length, take, replicate, Some, None, Option, ◌==◌, nat_le}
 use Rattle.clauses.specs.declared.literals.Literal.{Literal}
 use Rattle.clauses.specs.declared.kinds.Kind.{Kind}
 use Rattle.clauses.specs.declared.kinds.Kind.TheVariants.{Start, Global, Step, Sometime}

@@ -1,5 +1,5 @@
 -- The number of each refusal, and the first of a list of causes that holds. Assumes nothing.
-use Rattle.std.specs.Prelude.{ℕ, Bool, true, false, cond, List, [], ◌∷◌, Some, None, Option}
+use Rattle.std.specs.Prelude.{ℕ, Bool, cond, List, [], ◌∷◌, Some, None, Option}
 use Rattle.clauses.specs.declared.refusals.Refusal.{Refusal}
 use Rattle.clauses.specs.declared.refusals.Refusal.TheVariants.{IndexCount, TableSize, KindOrIndex, LiteralRange, NotAscending, WrongShape, SideTooLong, NotThere, Misfit, LiteralMissing, LoopEnded, NewSideTooLong, NothingLeft}
 

@@ -1,5 +1,6 @@
 // What a line is: literals, kinds, sides and lines, and the line that a rule makes.
 #![tactic(auto)]
+
 pub mod kinds;
 pub mod lines;
 pub mod literals;

@@ -1,9 +1,8 @@
-use Rattle.std.proofs.Common.{◌≡◌, ◌+◌, ◌&&◌, leb, get_or, drop, sym, refl, ap, ◌∙◌, le-leb}
+use Rattle.std.proofs.Common.{◌+◌, ◌&&◌, drop, sym, ap, ◌∙◌, le-leb}
 use borrow.Author.Tests.{lt-leb}
 use Rattle.std.proofs.lemmas.List.{at_drop_more, at_drop_all}
 use Rattle.clauses.specs.Lines.{zero}
 use Rattle.clauses.specs.Rules.{in_range}
-use Rattle.clauses.proofs.rules.in_range.Given as given
 use Rattle.clauses.proofs.rules.in_range.Goals as goal
 
 pub returns-then-x-gt-HIGHEST : goal.returns-then-x-gt-HIGHEST

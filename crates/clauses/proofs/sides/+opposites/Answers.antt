@@ -1,8 +1,7 @@
-use Rattle.std.proofs.Common.{◌≡◌, ℕ, ◌<◌, ◌≤◌, true, List, [], ◌∷◌, length, drop, is_some, Some, sym, refl, ap, ◌∙◌, arith, length-drop, rules}
+use Rattle.std.proofs.Common.{◌≡◌, ℕ, ◌<◌, ◌≤◌, length, drop, is_some, Some, sym, refl, ap, ◌∙◌, arith, length-drop, rules}
 use Rattle.std.proofs.lemmas.List.{take_rest}
 use Rattle.ordered.specs.Unions.{insert}
-use Rattle.clauses.specs.declared.lines.Side.{Side}
-use Rattle.clauses.specs.Lines.{literals, side_for, side_of}
+use Rattle.clauses.specs.Lines.{literals, side_of}
 use Rattle.clauses.specs.Literals.{literal_rank}
 use Rattle.clauses.specs.Sides.{ascends, opposites}
 use Rattle.clauses.proofs.Joining.{literals_of, no_opposite, one_fits, one_opposite, opposites_ascend, opposites_length}

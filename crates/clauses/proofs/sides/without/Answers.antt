@@ -1,6 +1,6 @@
-use Rattle.std.proofs.Common.{◌≡◌, ℕ, ◌+◌, ◌-◌, ◌<◌, ◌≤◌, List, [], ◌++◌, length, take, drop, Some, sym, refl, ap, ◌∙◌, subst, append-nil, arith, length-set, length-take}
+use Rattle.std.proofs.Common.{◌≡◌, ◌+◌, ◌-◌, ◌<◌, ◌≤◌, ◌++◌, length, take, drop, Some, sym, ap, ◌∙◌, append-nil, arith, length-set, length-take}
 use Rattle.std.proofs.lemmas.List.{at_drop_all}
-use Rattle.clauses.specs.Lines.{side_for, side_of}
+use Rattle.clauses.specs.Lines.{side_of}
 use Rattle.clauses.specs.Sides.{without}
 use Rattle.clauses.proofs.Joining.{goes, side_fits, stays_on}
 use Rattle.clauses.proofs.sides.without.Goals as goal

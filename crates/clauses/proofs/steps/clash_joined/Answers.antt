@@ -1,4 +1,4 @@
-use Rattle.std.proofs.Common.{◌≡◌, ap, ◌∙◌}
+use Rattle.std.proofs.Common.{ap, ◌∙◌}
 use Rattle.clauses.specs.Lines.{literals, side_for}
 use Rattle.clauses.specs.Literals.{opposite}
 use Rattle.clauses.specs.Sides.{ascends, join, without}

@@ -1,4 +1,4 @@
-use Rattle.std.proofs.Common.{◌≡◌, [], ◌∷◌, refl, ap, ◌∙◌}
+use Rattle.std.proofs.Common.{refl, ap, ◌∙◌}
 use Rattle.clauses.specs.Lines.{literals, side_for}
 use Rattle.clauses.specs.Sides.{ascends, join, opposites}
 use Rattle.clauses.proofs.Joining.{literals_of, opposites_ascend, pair_ascends, pair_side}

@@ -1,4 +1,4 @@
-use Rattle.std.proofs.Common.{◌≡◌, ℕ, ◌-◌, cond, List, ◌++◌, length, drop, replicate, Some, None, sym, refl, ap, ◌∙◌, arith, le-leb}
+use Rattle.std.proofs.Common.{◌≡◌, ◌-◌, cond, List, ◌++◌, length, drop, replicate, Some, None, sym, ap, ◌∙◌, arith, le-leb}
 use Rattle.std.proofs.lemmas.List.{drop-replicate}
 use Rattle.clauses.specs.declared.literals.Literal.{Literal}
 use Rattle.clauses.specs.declared.lines.Side.{Side}
