@@ -140,10 +140,10 @@ by_kind ws x y z l (Some kind) bare shape px py fits e =
     ap (lawful_line ws) same ∙ resolved_lawful ws x y l kind bare shape px py fits
 
 -- the index of a joint kind is one of those of the two
-scope_under : (k : ℕ) (s t : Scope) → scope_under k s ≡ true → scope_under k t ≡ true → UnderIf k (option_map Step (joint_scope s t))
-scope_under k All t p q = q
-scope_under k (Index i) All p q = p
-scope_under k (Index i) (Index j) p q = by-test (eqb i j)
+scope_under_lem : (k : ℕ) (s t : Scope) → scope_under k s ≡ true → scope_under k t ≡ true → UnderIf k (option_map Step (joint_scope s t))
+scope_under_lem k All t p q = q
+scope_under_lem k (Index i) All p q = p
+scope_under_lem k (Index i) (Index j) p q = by-test (eqb i j)
   where
     by-test : (b : Bool) → UnderIf k (option_map Step (cond b (Some (Index i)) None))
     by-test true = p
@@ -160,7 +160,7 @@ joint_under k Global (Step t) p q = q
 joint_under k Global (Sometime t) p q = tt
 joint_under k (Step s) Start p q = tt
 joint_under k (Step s) Global p q = p
-joint_under k (Step s) (Step t) p q = scope_under k s t p q
+joint_under k (Step s) (Step t) p q = scope_under_lem k s t p q
 joint_under k (Step s) (Sometime t) p q = tt
 joint_under k (Sometime s) b p q = tt
 

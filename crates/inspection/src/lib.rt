@@ -1,4 +1,6 @@
 // An inspection: the rules of a book taken in, and what follows from them.
+#![tactic(auto)]
+
 pub mod examples;
 pub mod judged;
 pub mod opening;

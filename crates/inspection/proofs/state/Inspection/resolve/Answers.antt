@@ -9,12 +9,12 @@ use Rattle.inspection.proofs.Adding.{made_after, made_answer, not_made}
 use Rattle.inspection.proofs.Overlays.{overlay_same}
 use Rattle.inspection.proofs.state.Inspection.resolve.Goals as goal
 
-pub returns-in-err-line : goal.returns-in-err-line
-returns-in-err-line c =
+pub returns-in_err-line : goal.returns-in_err-line
+returns-in_err-line c =
     let s = c.args.self.now in
     let m = model_of s in
-    let p = err_from_is_err_and c.from-residual.result c.from-residual.ensures.1 in
-    let out = not_made m (resolve c.args.a c.args.b c.args.literal) (resolve_causes m.loops (line_at m.lines c.args.a) (line_at m.lines c.args.b) c.args.literal) (resolved_of (line_at m.lines c.args.a) (line_at m.lines c.args.b) c.args.literal) refl _ c.in-err-line.ensures in
+    let p = err_from_is_err_and c.from_residual.result c.from_residual.ensures.1 in
+    let out = not_made m (resolve c.args.a c.args.b c.args.literal) (resolve_causes m.loops (line_at m.lines c.args.a) (line_at m.lines c.args.b) c.args.literal) (resolved_of (line_at m.lines c.args.a) (line_at m.lines c.args.b) c.args.literal) refl _ c.in_err-line.ensures in
     let told = ap told_line p.1 ∙ ap (λ e. refused (number_of e)) p.2 ∙ sym out.0 in
     record {
       answer = told;
@@ -25,15 +25,15 @@ returns-in-err-line c =
     }
 
 pub store-requires : goal.store-requires
-store-requires c = record { lawful = c.in-ok-line.ensures.2; indexed = c.in-ok-line.ensures.3 }
+store-requires c = record { lawful = c.in_ok-line.ensures.2; indexed = c.in_ok-line.ensures.3 }
 
 pub returns : goal.returns
 returns c =
     let m = model_of c.args.self.now in
-    let made = c.in-ok-line.ensures in
+    let made = c.in_ok-line.ensures in
     let stored = c.store.ensures in
     let told = stored.answer ∙ made_answer m (resolve c.args.a c.args.b c.args.literal) (resolve_causes m.loops (line_at m.lines c.args.a) (line_at m.lines c.args.b) c.args.literal) (resolved_of (line_at m.lines c.args.a) (line_at m.lines c.args.b) c.args.literal) refl refl made.0 in
-    let left = stored.after ∙ made_after m (resolve c.args.a c.args.b c.args.literal) (resolve_causes m.loops (line_at m.lines c.args.a) (line_at m.lines c.args.b) c.args.literal) (resolved_of (line_at m.lines c.args.a) (line_at m.lines c.args.b) c.args.literal) refl c.in-ok-line.line refl made.0 made.1 in
+    let left = stored.after ∙ made_after m (resolve c.args.a c.args.b c.args.literal) (resolve_causes m.loops (line_at m.lines c.args.a) (line_at m.lines c.args.b) c.args.literal) (resolved_of (line_at m.lines c.args.a) (line_at m.lines c.args.b) c.args.literal) refl c.in_ok-line.line refl made.0 made.1 in
     record {
       answer = told;
       after = left;

@@ -13,9 +13,9 @@ returns c =
     let l = c.args.literal in
     let b = line_at (model_of c.args.self.now).lines c.args.b in
     let x = c.in-Some.one in
-    let y = c.in-Some-line-at.two in
+    let y = c.in-Some-line_at.two in
     let one = c.in-Some.ensures in
-    let two = c.in-Some-line-at.ensures in
+    let two = c.in-Some-line_at.ensures in
     let told = c.resolvent.ensures (lawful_proper ws x one.lawful) (lawful_proper ws y two.lawful) in
     subst (λ (o : Option Line). Makes c.resolvent.result (resolve_causes [] o b l) (resolved_of o b l) k ws) one.value
     (subst (λ (o : Option Line). Makes c.resolvent.result (resolve_causes [] (Some x) o l) (resolved_of (Some x) o l) k ws) two.value

@@ -10,12 +10,12 @@ use Rattle.inspection.specs.Waits.{given_out}
 use Rattle.inspection.proofs.Overlays.{overlay_same, overlay_set}
 use Rattle.inspection.proofs.state.Inspection.store.Goals as goal
 
-pub returns-in-err-has-room : goal.returns-in-err-has-room
-returns-in-err-has-room c =
+pub returns-in_err-has_room : goal.returns-in_err-has_room
+returns-in_err-has_room c =
     let s = c.args.self.now in
     let m = model_of s in
-    let p = err_from_is_err_and c.from-residual.result c.from-residual.ensures.1 in
-    let no = c.in-err-has-room.ensures in
+    let p = err_from_is_err_and c.from_residual.result c.from_residual.ensures.1 in
+    let no = c.in_err-has_room.ensures in
     record {
       answer = ap told_line p.1 ∙ ap (λ e. refused (number_of e)) (p.2 ∙ no.0) ∙ ap (λ b. answer_by (cond b (Some 18) None) (line (length m.lines))) (sym no.1);
       after = ap (λ b. after_by (cond b (Some 18) None) m (with_made m (Some c.args.line))) (sym no.1);
@@ -28,7 +28,7 @@ returns c =
     let s = c.args.self.now in
     let m = model_of s in
     let x = c.args.line in
-    let room = c.in-ok-has-room.ensures in
+    let room = c.in_ok-has_room.ensures in
     let stored = c.put.ensures in
     let long : length (take s.made s.lines.now) ≡ s.made = length-take-le s.made s.lines.now (omega (arith, s.within, s.fits)) in
     let free : s.made < length s.lines.now = omega (arith, leb-false s.room (length (take s.made s.lines.now)) room, long, s.fits) in
