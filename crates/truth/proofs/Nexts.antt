@@ -1,5 +1,5 @@
 -- The test of every next state against the moves. Assumes nothing.
-use Rattle.std.proofs.Common.{◌≡◌, ℕ, ◌<◌, Bool, true, false, ◌&&◌, ◌⊎◌, length, get_or, sym, refl, ap, ◌∙◌, ap₂, inl, inr, ⊎_elim}
+use Rattle.std.proofs.Common.{◌≡◌, ℕ, ◌<◌, Bool, true, false, ◌&&◌, length, get_or, refl, ap, ◌∙◌, ap₂, inl, inr, ⊎_elim}
 use Rattle.std.proofs.lemmas.Bool.{and_parts, and_from, and_cases}
 use Rattle.clauses.specs.declared.kinds.Scope.{Scope}
 use Rattle.clauses.specs.declared.kinds.Scope.TheVariants.{All, Index}

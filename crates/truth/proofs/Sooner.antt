@@ -1,7 +1,7 @@
 -- The stages of what is met sooner or later: after as many as there are states nothing is added, so it is the least test
 -- that is closed under one more move. Assumes nothing.
 use Rattle.std.proofs.Common.{◌≡◌, ℕ, zero, suc, ◌<◌, Bool, true, false, not, ◌||◌, ◌⊎◌, inl, inr, ⊎_elim, arith}
-use Rattle.std.proofs.lemmas.Bool.{false≢true, cases_Bool, not_false, or_cases, or_left, or_right, or_parts}
+use Rattle.std.proofs.lemmas.Bool.{false≢true, cases_Bool, not-false, or_cases, or_left, or_right, or_parts}
 use Rattle.clauses.specs.declared.kinds.Scope.{Scope}
 use Rattle.truth.specs.Systems.{System, WellFormed, Speaks}
 use Rattle.truth.specs.Deciding.{all_below, every_next, within, sooner}
@@ -44,7 +44,7 @@ module _ (sys : System) (scope : Scope) (p : ℕ → Bool) where
       let found = below_fails sys.states same e in
       let s = found.0 in
       let parts = or_parts (not (after s)) (before s) found.2 in
-      inr (count_more sys.states before after (λ k lt. within_more n k) s found.1 parts.1 (not_false (after s) parts.0)))
+      inr (count_more sys.states before after (λ k lt. within_more n k) s found.1 parts.1 (not-false (after s) parts.0)))
       (cases_Bool (all_below sys.states same))
     where
       before : ℕ → Bool

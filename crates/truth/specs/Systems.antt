@@ -1,5 +1,5 @@
 -- A finite transition system, its moves and its endless paths. Assumes nothing.
-use Rattle.std.specs.Prelude.{◌≡◌, ℕ, suc, ◌<◌, ◌≤◌, Bool, ◌⊎◌, List, length, slice_index}
+use Rattle.std.specs.Prelude.{◌≡◌, ℕ, suc, ◌<◌, Bool, ◌⊎◌, List, length, slice_index}
 use Rattle.clauses.specs.declared.kinds.Scope.{Scope}
 use Rattle.clauses.specs.declared.kinds.Scope.TheVariants.{All, Index}
 

@@ -1,4 +1,6 @@
 // What truth is: systems, paths, and when a rule is kept. The definitions are in `specs/`; here stand the theorems about them.
+#![tactic(auto)]
+
 ghost use Rattle.std.specs.Prelude.{◌≡◌, true};
 ghost use Rattle.truth.specs.Decided.{PathsDecided, RulesDecided};
 
