@@ -3,7 +3,7 @@
 use Rattle.std.proofs.Common.{◌≡◌, ℕ, zero, suc, ◌<◌, ◌≤◌, Bool, true, false, not, eqb, List, [], ◌∷◌, ◌++◌, length, Some, None, Option, sym, refl, ap, ◌∙◌, subst, inl, ⊎_elim}
 use Rattle.std.specs.List as lists
 use Rattle.std.proofs.lemmas.List.{nil_from_length}
-use Rattle.std.proofs.lemmas.Bool.{both_ways, false≢true, cases_Bool, eqb-true, and_parts, not_false, or_cases, or_from, or_parts}
+use Rattle.std.proofs.lemmas.Bool.{both_ways, false≢true, cases_Bool, eqb-true, and_parts, not-false, or_cases, or_from, or_parts}
 use Rattle.ordered.specs.Lists as ordered
 use Rattle.clauses.specs.declared.kinds.Kind.{Kind}
 use Rattle.clauses.specs.declared.kinds.Kind.TheVariants.{Start, Global, Step, Sometime}
@@ -43,12 +43,12 @@ shared_move sys (Index i) (Step (Index j)) s wf speaks fits step = (Index j, ref
 shared_move sys scope (Sometime other) s wf speaks fits step = absurd (false≢true step)
 
 -- the line that meets a row
-meeting_line : (P : Line → Type 0) (scope : Scope) (n : ℕ) (p : List Literal) (xs : List Line) → lists.All P xs → met scope n p xs ≡ true → (x : Line) × P x × (meets scope n p x ≡ true)
+meeting_line : (P : Line → Type 0) (scope : Scope) (n : ℕ) (p : List Literal) (xs : List Line) → lists.AllByRecursion P xs → met scope n p xs ≡ true → (x : Line) × P x × (meets scope n p x ≡ true)
 meeting_line P scope n p [] all h = absurd (false≢true h)
 meeting_line P scope n p (x ∷ xs) all h = ⊎_elim (λ here. (x, all.0, here)) (meeting_line P scope n p xs all.1) (or_cases (meets scope n p x) (met scope n p xs) h)
 
 -- where not every row has its right true, one does not
-failing_row : (A : List Literal → Type 0) (right : List Literal → Bool) (ps : List (List Literal)) → lists.All A ps → (lists.All (λ p. right p ≡ true) ps → ⊥) → (q : List Literal) × A q × (right q ≡ false)
+failing_row : (A : List Literal → Type 0) (right : List Literal → Bool) (ps : List (List Literal)) → lists.AllByRecursion A ps → (lists.AllByRecursion (λ p. right p ≡ true) ps → ⊥) → (q : List Literal) × A q × (right q ≡ false)
 failing_row A right [] all h = absurd (h tt)
 failing_row A right (p ∷ ps) all h =
     ⊎_elim
@@ -60,7 +60,7 @@ of_loop : (n : ℕ) (o : Option ℕ) → belongs_to n o ≡ true → o ≡ Some 
 of_loop n None h = absurd (false≢true h)
 of_loop n (Some k) h = ap Some (eqb-true k n h)
 
-module _ (sys : System) (ws : List Wait) (wf : WellFormed sys) (loops : List Loop) (n : ℕ) (z : Loop) (there : loop_at loops n ≡ Some z) (speaks : Speaks sys z.scope) (low : z.goal.0 ≤ 2047) (lines : List Line) (truths : lists.All (λ x. TrueLine sys ws loops x × Fits sys x.kind) lines) (meet : lists.All (λ p. met z.scope n p lines ≡ true) z.rows) where
+module _ (sys : System) (ws : List Wait) (wf : WellFormed sys) (loops : List Loop) (n : ℕ) (z : Loop) (there : loop_at loops n ≡ Some z) (speaks : Speaks sys z.scope) (low : z.goal.0 ≤ 2047) (lines : List Line) (truths : lists.AllByRecursion (λ x. TrueLine sys ws loops x × Fits sys x.kind) lines) (meet : lists.AllByRecursion (λ p. met z.scope n p lines ≡ true) z.rows) where
   -- the system with the waits
   abbrev E : System
   E = extended sys ws
@@ -97,7 +97,7 @@ module _ (sys : System) (ws : List Wait) (wf : WellFormed sys) (loops : List Loo
   row_fails : (q : List Literal) (s : ℕ) → right_at E (row_right z.goal q) s ≡ false → (left_at E q s ≡ true) × (right_at sys (z.goal ∷ []) s ≡ false)
   row_fails q s h =
       let parts = or_parts (literal_at E s z.goal) (not (left_at E q s)) (sym (right_row E s z.goal q) ∙ h) in
-      (not_false (left_at E q s) parts.1, or_from (literal_at sys s z.goal) false (sym (layout_literal sys ws s z.goal low) ∙ parts.0) refl)
+      (not-false (left_at E q s) parts.1, or_from (literal_at sys s z.goal) false (sym (layout_literal sys ws s z.goal low) ∙ parts.0) refl)
 
   never_within : (k : ℕ) (q : List Literal) → met z.scope n q lines ≡ true → (s : ℕ) → s < sys.states → right_at E (row_right z.goal q) s ≡ false → within sys z.scope (right_at sys (z.goal ∷ [])) k s ≡ true → ⊥
   never_within zero q is-met s from fails h = both_ways (right_at sys (z.goal ∷ []) s) (row_fails q s fails).1 h
@@ -111,18 +111,18 @@ module _ (sys : System) (ws : List Wait) (wf : WellFormed sys) (loops : List Loo
       (or_cases (goal s) (every_next sys z.scope (within sys z.scope goal k) s) h)
 
   -- where the goal comes, the right of every row holds
-  pub row_right : (q : List Literal) → met z.scope n q lines ≡ true → (s : ℕ) → s < sys.states → comes sys (waited_by z) s ≡ true → right_at E (row_right z.goal q) s ≡ true
-  row_right q is-met s from h =
+  pub row_right_holds : (q : List Literal) → met z.scope n q lines ≡ true → (s : ℕ) → s < sys.states → comes sys (waited_by z) s ≡ true → right_at E (row_right z.goal q) s ≡ true
+  row_right_holds q is-met s from h =
       ⊎_elim (λ holds. holds) (λ fails. absurd (never_within sys.states q is-met s from fails h)) (cases_Bool (right_at E (row_right z.goal q) s))
 
   -- at once, where the left of a sometime line holds
   pub now_true : (q : List Literal) → met z.scope n q lines ≡ true → (x : Line) → ((s : ℕ) → s < sys.states → left_at E (literals x.left) s ≡ true → comes sys (waited_by z) s ≡ true) → TrueLine sys ws loops (made Global [] (join (opposites (literals x.left)) (row_right z.goal q)) None)
   now_true q is-met x come =
       true_made sys ws loops Global [] (join (opposites (literals x.left)) (row_right z.goal q)) None
-      (λ s t from to asks. right_implied E t (literals x.left) (row_right z.goal q) (λ holds. row_right q is-met t to (come t to holds)))
+      (λ s t from to asks. right_implied E t (literals x.left) (row_right z.goal q) (λ holds. row_right_holds q is-met t to (come t to holds)))
 
   -- and after every move from where one waits
   pub later_true : (q : List Literal) → met z.scope n q lines ≡ true → (front more : List Wait) → ws ≡ front ++ more → (p : ℕ) → place_of front (waited_by z) ≡ Some p → TrueLine sys ws loops (made (Step z.scope) (wait_literal p ∷ []) (row_right z.goal q) None)
   later_true q is-met front more is p place =
       true_made sys ws loops (Step z.scope) (wait_literal p ∷ []) (row_right z.goal q) None
-      (λ s t from to asks. row_right q is-met t to (comes_next sys (waited_by z) s t (wait_says sys ws front more is (waited_by z) p low place s asks.2) asks.0))
+      (λ s t from to asks. row_right_holds q is-met t to (comes_next sys (waited_by z) s t (wait_says sys ws front more is (waited_by z) p low place s asks.2) asks.0))

@@ -35,16 +35,16 @@ extended sys ws = record { states = sys.states; indices = sys.indices; holds = �
 
 -- ---- two waits that are the same
 
-same_scope : (a b : Scope) → same_scope a b ≡ true → a ≡ b
-same_scope All All e = refl
-same_scope All (Index j) e = absurd (false≢true e)
-same_scope (Index i) All e = absurd (false≢true e)
-same_scope (Index i) (Index j) e = ap Index (eqb-true i j e)
+one_scope : (a b : Scope) → same_scope a b ≡ true → a ≡ b
+one_scope All All e = refl
+one_scope All (Index j) e = absurd (false≢true e)
+one_scope (Index i) All e = absurd (false≢true e)
+one_scope (Index i) (Index j) e = ap Index (eqb-true i j e)
 
-pub same_wait : (v w : Wait) → same_wait v w ≡ true → v ≡ w
-same_wait v w e =
+pub one_wait : (v w : Wait) → same_wait v w ≡ true → v ≡ w
+one_wait v w e =
     let parts = and_parts (same_scope v.scope w.scope) (eqb v.goal.0 w.goal.0) e in
-    let scopes = same_scope v.scope w.scope parts.0 in
+    let scopes = one_scope v.scope w.scope parts.0 in
     let goals = one_literal v.goal w.goal parts.1 in
     λ i. record { scope = scopes i; goal = goals i }
 
@@ -70,8 +70,8 @@ module _ (sys : System) (ws : List Wait) (s : ℕ) where
 
   -- ---- and the literal of a wait that one waits
 
-  wait_literal : (n : ℕ) → literal_at (extended sys ws) s (wait_literal n) ≡ waits_at sys ws n s
-  wait_literal n =
+  literal_of_wait : (n : ℕ) → literal_at (extended sys ws) s (wait_literal n) ≡ waits_at sys ws n s
+  literal_of_wait n =
       let m = 2 * (1024 + n) in
       let half : m / 2 ≡ 1024 + n = omega arith in
       let back : m / 2 - 1024 ≡ n = omega arith in
@@ -86,7 +86,7 @@ place_waits sys s (v ∷ vs) more w n e = by-test (same_wait v w) refl (place_of
   where
     by-test : (b : Bool) → same_wait v w ≡ b → (o : Option ℕ) → place_of vs w ≡ o → cond b (Some 0) (option_map suc o) ≡ Some n → ((k : ℕ) → place_of vs w ≡ Some k → waits_at sys (vs ++ more) k s ≡ waits sys w s) → waits_at sys (v ∷ (vs ++ more)) n s ≡ waits sys w s
     by-test true same o is here rest =
-        ap (λ k. waits_at sys (v ∷ (vs ++ more)) k s) (sym (some_same here)) ∙ ap (λ u. waits sys u s) (same_wait v w same)
+        ap (λ k. waits_at sys (v ∷ (vs ++ more)) k s) (sym (some_same here)) ∙ ap (λ u. waits sys u s) (one_wait v w same)
     by-test false same None is here rest = none_some here
     by-test false same (Some k) is here rest =
         ap (λ j. waits_at sys (v ∷ (vs ++ more)) j s) (sym (some_same here)) ∙ rest k is
@@ -94,4 +94,4 @@ place_waits sys s (v ∷ vs) more w n e = by-test (same_wait v w) refl (place_of
 -- the literal of a wait that was given out by then
 pub given_literal : (sys : System) (ws : List Wait) (s : ℕ) (front more : List Wait) (w : Wait) (n : ℕ) → ws ≡ front ++ more → place_of front w ≡ Some n → literal_at (extended sys ws) s (wait_literal n) ≡ waits sys w s
 given_literal sys ws s front more w n is place =
-    wait_literal sys ws s n ∙ ap (λ vs. waits_at sys vs n s) is ∙ place_waits sys s front more w n place
+    literal_of_wait sys ws s n ∙ ap (λ vs. waits_at sys vs n s) is ∙ place_waits sys s front more w n place

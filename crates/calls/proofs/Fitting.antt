@@ -2,7 +2,7 @@
 use Rattle.std.proofs.Common.{◌≡◌, ℕ, zero, suc, true, not, eqb, ltb, List, [], ◌∷◌, ◌++◌, get_or, Some, None, Option, sym, refl, ap, ◌∙◌, subst, arith}
 use Rattle.std.specs.List.{AllByRecursion as All}
 use Rattle.std.proofs.ByRecursion.{All-get_or, All-push}
-use Rattle.std.proofs.lemmas.Bool.{eqb-true, ltb-true, not_false, or_parts}
+use Rattle.std.proofs.lemmas.Bool.{eqb-true, ltb-true, not-false, or_parts}
 use Rattle.clauses.specs.declared.kinds.Kind.{Kind}
 use Rattle.clauses.specs.declared.kinds.Kind.TheVariants.{Start, Global, Step, Sometime}
 use Rattle.clauses.specs.declared.kinds.Scope.{Scope}
@@ -162,6 +162,6 @@ judged_fit m sys bytes j fit wf e = by_first (first_of (judge_causes m.indices b
     by_first : (o : Option ℕ) → first_of (judge_causes m.indices bytes sys) ≡ o → answer_by o (judged_as (judgement sys m.lines)) ≡ judged_as j → (sys.indices ≡ m.indices) × Judged sys m.lines j
     by_first None first is =
         let causeless = all_none (judge_causes m.indices bytes sys) first in
-        let same = eqb-true sys.indices m.indices (not_false (eqb sys.indices m.indices) (or_parts (ltb 256 sys.states) (not (eqb sys.indices m.indices)) causeless.1.0).1) in
+        let same = eqb-true sys.indices m.indices (not-false (eqb sys.indices m.indices) (or_parts (ltb 256 sys.states) (not (eqb sys.indices m.indices)) causeless.1.0).1) in
         (same, subst (Judged sys m.lines) (judged_same (judgement sys m.lines) j is) (judgement_exact sys m.lines wf (lines_fit sys m fit same)).0)
     by_first (Some n) first is = absurd (not_refused n j is)

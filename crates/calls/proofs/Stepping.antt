@@ -16,7 +16,7 @@ use Rattle.calls.specs.Law.{IsRuleCall}
 use Rattle.calls.specs.Loops.{Row, at_loop, closed_row, is_closed, loop_at, open_here, row_at, row_of, row_right, some_open, standing_as, waited_by}
 use Rattle.calls.specs.Models.{Loop, Model, closed, dropped}
 use Rattle.calls.specs.Waits.{and_then, place_of, wait_of}
-use Rattle.calls.proofs.Extending.{same_wait}
+use Rattle.calls.proofs.Extending.{one_wait}
 use Rattle.calls.proofs.Joints.{Joint, kinds_join, none_some, some_none, some_same}
 use Rattle.calls.proofs.Keeping.{all_none, not_false, rule_indexed}
 
@@ -60,8 +60,8 @@ none_there : (o : Option ℕ) → is_some o ≡ false → o ≡ None
 none_there None h = refl
 none_there (Some n) h = absurd (true≢false h)
 
-closed_row : (loops : List Loop) (n r : ℕ) (w : Row) → closed_row loops n r ≡ Some w → ClosedAt loops n w
-closed_row loops n r w e = by_loop (loop_at loops n) refl e
+row_closed : (loops : List Loop) (n r : ℕ) (w : Row) → closed_row loops n r ≡ Some w → ClosedAt loops n w
+row_closed loops n r w e = by_loop (loop_at loops n) refl e
   where
     by_row : (z : Loop) → loop_at loops n ≡ Some z → (b : Bool) → is_closed z.standing ≡ b → (o : Option (List Literal)) → row_at z.rows r ≡ o → cond b (option_map (λ p. record { wait = waited_by z; literals = p }) o) None ≡ Some w → ClosedAt loops n w
     by_row z there true over None among is = none_some is
@@ -151,12 +151,12 @@ module _ (m : Model) (R : Type 0) where
     where
       by-wait : (o : Option Wait) → wait_of x ≡ o → fits_row w.wait o ≡ true → Steps m R (with_made m (Some (made Global [] (now_right w x) None)))
       by-wait None is fits = absurd (false≢true fits)
-      by-wait (Some v) is fits = makes _ (met_now n w i x (closed_row m.loops n r w at_row) at (is ∙ ap Some (same_wait v w.wait fits)))
+      by-wait (Some v) is fits = makes _ (met_now n w i x (row_closed m.loops n r w at_row) at (is ∙ ap Some (one_wait v w.wait fits)))
 
   later_steps : (n r : ℕ) (o : Option Row) → closed_row m.loops n r ≡ o → Steps m R (with_made m (later_of m.waits o))
   later_steps n r None at_row = nothing
   later_steps n r (Some w) at_row =
-      place_steps w.wait (λ p. made (Step w.wait.scope) (wait_literal p ∷ []) (row_right w.wait.goal w.literals) None) (λ p is. met_later n w p (closed_row m.loops n r w at_row) is)
+      place_steps w.wait (λ p. made (Step w.wait.scope) (wait_literal p ∷ []) (row_right w.wait.goal w.literals) None) (λ p is. met_later n w p (row_closed m.loops n r w at_row) is)
 
   -- a call that is refused changes nothing
   refused_or : (left : Model) (o : Option ℕ) → (o ≡ None → Steps m R left) → Steps m R (after_by o m left)

@@ -14,7 +14,7 @@ use Rattle.clauses.specs.Sides.{join, opposites}
 use Rattle.clauses.specs.Steps.{made}
 use Rattle.calls.specs.declared.waits.Wait.{Wait}
 use Rattle.calls.specs.Models.{Loop, Standing, opened, closed, dropped}
-use Rattle.calls.specs.Waits.{and_then, same_wait, wait_of}
+use Rattle.calls.specs.Waits.{and_then}
 
 -- ---- loops by number
 

@@ -1,4 +1,6 @@
 // The calls of an inspection: what stands against each, what it answers and what it leaves. Mostly definitions, and the law over them.
+#![tactic(auto)]
+
 ghost use Rattle.std.specs.Prelude.{◌≡◌, true};
 ghost use Rattle.calls.specs.Law.{Law};
 
