@@ -1,10 +1,10 @@
 -- What holds of a plan that nothing stands against. Assumes nothing.
-use Rattle.std.proofs.Common.{◌≡◌, ℕ, zero, suc, ◌+◌, ◌*◌, ◌<◌, ◌≤◌, Bool, true, false, cond, not, ◌&&◌, eqb, ltb, leb, ◌⊎◌, List, [], ◌∷◌, length, get_or, take, is_some, Some, None, Option, sym, refl, ap, ◌∙◌, subst, inl, inr, ⊎_elim, arith}
+use Rattle.std.proofs.Common.{◌≡◌, ℕ, ◌+◌, ◌*◌, ◌<◌, ◌≤◌, Bool, true, false, cond, ◌&&◌, ltb, leb, ◌⊎◌, List, [], ◌∷◌, length, get_or, take, is_some, Some, Option, sym, refl, ap, ◌∙◌, inl, inr, ⊎_elim, arith}
 use Rattle.std.specs.List.{AllByRecursion as All}
 use Rattle.std.proofs.lemmas.Nat.{mul-add-lt}
 use Rattle.std.proofs.lemmas.List.{get_or-take, length-take-le}
 use Rattle.std.specs.Ordering.{is_eq}
-use Rattle.std.proofs.lemmas.Bool.{true≢false, and_parts, cases_Bool, cases_lt, cond-true, leb-true, le-ltb, lt-ltb, ltb-true, ltb-false, not_false, or_from}
+use Rattle.std.proofs.lemmas.Bool.{true≢false, and_parts, cases_Bool, cases_lt, cond-true, leb-true, le-ltb, lt-ltb, ltb-true, ltb-false, not-false, or_from}
 use Rattle.ordered.specs.declared.Pair.{Pair}
 use Rattle.ordered.specs.Lists.{ascending, count_below, holds}
 use Rattle.ordered.specs.Pairs.{pair_rank}
@@ -13,8 +13,8 @@ use Rattle.ordered.proofs.Pairing.{same_pair}
 use Rattle.clauses.specs.Refusals.{Cause, first_of}
 use Rattle.truth.specs.Systems.{WellFormed}
 use Rattle.plans.specs.Questions.{free_target}
-use Rattle.plans.specs.Tables.{all_under, every, leading, moves_fit, pair, pairs_below, sized, table_causes, table_system, targets_fit, truths_fit}
-use Rattle.plans.specs.Rings.{ring_causes, ring_system}
+use Rattle.plans.specs.Tables.{leading, moves_fit, pair, pairs_below, sized, table_causes, table_system, targets_fit, truths_fit}
+use Rattle.plans.specs.Rings.{ring_causes}
 use Rattle.plans.proofs.Every.{every_at}
 use Rattle.plans.proofs.Leading.{leading_at, leading_below, leading_count, pick}
 
@@ -83,8 +83,8 @@ pub record TableFits (n k : ℕ) (targets : List ℕ) (truths moves : List Pair)
 pub table_fits : (n k : ℕ) (targets : List ℕ) (truths moves : List Pair) → is_some (first_of (table_causes n k targets truths moves)) ≡ false → TableFits n k targets truths moves
 table_fits n k targets truths moves h =
     let clear = none_holds (table_causes n k targets truths moves) h in
-    let up = and_parts (ascending pair_rank truths) (ascending pair_rank moves) (not_false _ clear.1.0) in
-    let all = and_parts (sized n k) _ (not_false _ clear.1.1.0) in
+    let up = and_parts (ascending pair_rank truths) (ascending pair_rank moves) (not-false _ clear.1.0) in
+    let all = and_parts (sized n k) _ (not-false _ clear.1.1.0) in
     let lists = and_parts (targets_fit n k targets) _ all.1 in
     let pairs = and_parts (truths_fit n truths) (moves_fit n moves) lists.1 in
     let free = and_parts (leb (length moves) 4096) (pairs_below n n moves) pairs.1 in
@@ -134,11 +134,11 @@ pub record RingFits (n k back : ℕ) (truths : List Pair) : Type 0 where
 pub ring_fits : (n k back : ℕ) (truths : List Pair) → is_some (first_of (ring_causes n k back truths)) ≡ false → RingFits n k back truths
 ring_fits n k back truths h =
     let clear = none_holds (ring_causes n k back truths) h in
-    let all = and_parts (sized n k) _ (not_false _ clear.1.0) in
+    let all = and_parts (sized n k) _ (not-false _ clear.1.0) in
     let rest = and_parts (ltb back n) (truths_fit n truths) all.1 in
     record {
       sizes = sized_parts n k all.0;
       back_fits = ltb-true _ _ rest.0;
-      truths_up = not_false _ clear.0;
+      truths_up = not-false _ clear.0;
       truths_fit = rest.1;
     }

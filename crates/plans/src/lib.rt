@@ -1,4 +1,6 @@
 // Plans: the six questions that any plan answers, the table plan and the ring.
+#![tactic(auto)]
+
 pub mod answers;
 pub mod filling;
 pub mod questions;

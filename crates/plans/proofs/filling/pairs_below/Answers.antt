@@ -1,6 +1,5 @@
-use Rattle.std.proofs.Common.{◌≡◌, Bool, false, ◌&&◌, ltb, get_or}
+use Rattle.std.proofs.Common.{◌≡◌, false, ◌&&◌, ltb, get_or}
 use Rattle.std.proofs.lemmas.Bool.{and_from, and_left, and_right, lt-ltb, le-ltb}
-use Rattle.ordered.specs.declared.Pair.{Pair}
 use Rattle.plans.specs.Tables.{pair}
 use Rattle.plans.proofs.Every.{every_all, every_fails, every_passes}
 use Rattle.plans.proofs.filling.pairs_below.Goals as goal

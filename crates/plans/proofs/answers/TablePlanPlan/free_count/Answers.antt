@@ -11,8 +11,8 @@ counts c =
     let fits = table_fits plan.states plan.indices plan.targets.now plan.truths.now plan.moves.now plan.lawful in
     count_answer plan.states plan.indices plan.targets.now plan.truths.now plan.moves.now fits c.args.state _ _ (c.lower-here.ensures.is pair_order fits.moves_up) (c.lower-after.ensures.is pair_order fits.moves_up)
 
-pub overflow-sub-result : goal.overflow-sub-result
-overflow-sub-result c = omega (arith, counts c)
+pub overflow_sub-result : goal.overflow_sub-result
+overflow_sub-result c = omega (arith, counts c)
 
 pub returns : goal.returns
 returns c =

@@ -1,4 +1,4 @@
-use Rattle.std.proofs.Common.{◌≡◌, ℕ, ◌+◌, ◌<◌, ◌≤◌, eqb, length, sym, ◌∙◌}
+use Rattle.std.proofs.Common.{◌≡◌, ℕ, ◌+◌, eqb, is_some, sym, ap, ◌∙◌}
 use Rattle.std.proofs.lemmas.Bool.{cond-true, cond-false, eq-eqb, ltb-true, ltb-false, ne_eqb}
 use Rattle.ordered.specs.Pairs.{pair_order}
 use Rattle.plans.specs.Held.{table_of}
@@ -22,12 +22,12 @@ returns-in-Some c =
     answer (goal.at.returns-in-Some c).After-lower-here p.second
     (pick_there _ _ _ p (ltb-true _ _ (sym there.0)) there.1 ∙ cond-true (eqb p.first c.args.state) p.second 0 (eq-eqb _ _ c.if-step-state.true))
 
-pub returns-in-default : goal.returns-in-default
-returns-in-default c =
+pub returns-in_default : goal.returns-in_default
+returns-in_default c =
     let p = c.in-Some.step.now in
     let there = c.in-Some.ensures.lookup in
-    answer (goal.at.returns-in-default c).After-lower-here 0
+    answer (goal.at.returns-in_default c).After-lower-here 0
     (pick_there _ _ _ p (ltb-true _ _ (sym there.0)) there.1 ∙ cond-false (eqb p.first c.args.state) p.second 0 (ne_eqb _ _ c.if-step-state.false))
 
-pub returns-in-default·2 : goal.returns-in-default·2
-returns-in-default·2 c = answer (goal.at.returns-in-default·2 c).After-lower-here 0 (pick_past _ _ _ (ltb-false _ _ (sym c.in-default.ensures.lookup.0)))
+pub returns-in_default-2 : goal.returns-in_default-2
+returns-in_default-2 c = answer (goal.at.returns-in_default-2 c).After-lower-here 0 (pick_past _ _ _ (ltb-false _ _ (sym c.get.ensures.lookup.0 ∙ ap is_some c.in_default.is)))
