@@ -2,8 +2,8 @@ use Rattle.clauses.specs.Lines.{literals}
 use Rattle.judging.proofs.Breaking.{step_broken}
 use Rattle.judging.proofs.rules.broken_at.Goals as goal
 
-pub returns-then-left-holds : goal.returns-then-left-holds
-returns-then-left-holds g c =
+pub returns-then-left_holds : goal.returns-then-left_holds
+returns-then-left_holds g c =
     step_broken (g.P.Plan.system c.args.plan.now) c.requires.formed c.args.marks.now c.requires.states c.args.state c.requires.there c.in-Step.scope
-    c.args.rule.now.kind (literals c.args.rule.now.left) (literals c.args.rule.now.right) c.literals.result.now c.next-marked.result
-    c.in-Step.is c.literals.ensures.value c.if-left-holds.ensures c.next-marked.ensures
+    c.args.rule.now.kind (literals c.args.rule.now.left) (literals c.args.rule.now.right) c.literals.result.now c.next_marked.result
+    c.in-Step.is c.literals.ensures.value c.if-left_holds.ensures c.next_marked.ensures

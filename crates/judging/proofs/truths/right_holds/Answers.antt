@@ -4,13 +4,13 @@ use Rattle.truth.specs.Truth.{right_at}
 use Rattle.judging.proofs.Sides.{right_more}
 use Rattle.judging.proofs.truths.right_holds.Goals as goal
 
-pub returns-then-literal-holds : goal.returns-then-literal-holds
-returns-then-literal-holds g c =
-    sym (sym c.loop-literal.invariant ∙ right_more (g.P.Plan.system c.args.plan.now) c.args.state c.args.right.now c.loop-literal.literal-index true c.loop-literal-test.true c.if-literal-holds.ensures)
+pub returns-then-literal_holds : goal.returns-then-literal_holds
+returns-then-literal_holds g c =
+    sym (sym c.loop-literal.invariant ∙ right_more (g.P.Plan.system c.args.plan.now) c.args.state c.args.right.now c.loop-literal.literal-index true c.loop-literal-test.true c.if-literal_holds.ensures)
 
 pub loop-literal-preserved : goal.loop-literal-preserved
 loop-literal-preserved g c =
-    sym (right_more (g.P.Plan.system c.args.plan.now) c.args.state c.args.right.now c.loop-literal.literal-index false c.loop-literal-test.true c.if-literal-holds.ensures)
+    sym (right_more (g.P.Plan.system c.args.plan.now) c.args.state c.args.right.now c.loop-literal.literal-index false c.loop-literal-test.true c.if-literal_holds.ensures)
     ∙ c.loop-literal.invariant
 
 pub returns : goal.returns
