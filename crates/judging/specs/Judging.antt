@@ -1,5 +1,5 @@
 -- What judging the rules of a system comes to. Assumes nothing.
-use Rattle.std.specs.Prelude.{◌≡◌, ℕ, ◌+◌, ◌<◌, true, cond, not, ◌||◌, List, [], ◌∷◌, length, get_or, Some, None, Option, ◌==◌, nat_lt, slice_index_or}
+use Rattle.std.specs.Prelude.{◌≡◌, ℕ, ◌+◌, ◌<◌, true, cond, not, ◌||◌, List, [], ◌∷◌, length, Some, None, Option, ◌==◌, nat_lt, slice_index_or}
 use Rattle.clauses.specs.declared.lines.Line.{Line}
 use Rattle.clauses.specs.Lines.{blank}
 use Rattle.clauses.specs.Refusals.{Cause}
@@ -14,7 +14,7 @@ use Rattle.judging.specs.declared.judgements.Judgement.TheVariants.{Kept, Broken
 
 -- the line of this number is a rule
 abbrev pub IsRule : List Line → ℕ → Type 0
-IsRule lines n = (n < length lines) × ((get_or lines n blank).mark ≡ true)
+IsRule lines n = (n < length lines) × ((slice_index_or lines n blank).mark ≡ true)
 
 -- kept: every rule is; broken n s: the rule n is at s, at no lower state, and no lower rule is at all
 abbrev pub Judged : System → List Line → Judgement → Type 0
@@ -31,7 +31,7 @@ Exactly sys lines j = Judged sys lines j × ((i : Judgement) → Judged sys line
 
 -- the index of every line, where it has one, is an index of the system
 abbrev pub AllFit : System → List Line → Type 0
-AllFit sys lines = (n : ℕ) → n < length lines → Fits sys (get_or lines n blank).kind
+AllFit sys lines = (n : ℕ) → n < length lines → Fits sys (slice_index_or lines n blank).kind
 
 -- ---- computed
 
