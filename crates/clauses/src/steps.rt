@@ -11,6 +11,7 @@ use crate::literals::Literal;
 use crate::sides::{contains, joined, opposites, without};
 
 // What is left of two sides on which a literal and its opposite clash, where it has place.
+#[tactic(auto, using(crate::proofs::Joining::literals_of, crate::proofs::Joining::without_ascends))]
 fn clash_joined(one: &Side, two: &Side, literal: Literal) -> Option<Side>
     ensures { ascends (literals one.now) ≡ true → ascends (literals two.now) ≡ true → result ≡ side_for (join (without literal (literals one.now)) (without (opposite literal) (literals two.now))) }
 {
