@@ -9,9 +9,9 @@ returns g c =
     let sys = g.P.Plan.system c.args.plan.now in
     let all : s.made - 0 ≡ s.made = omega arith in
     let rules : take (s.made - 0) s.lines.now ≡ take s.made s.lines.now = ap (λ n. take n s.lines.now) all in
-    let told = c.judge-rules.ensures in
+    let told = c.judge_rules.ensures in
     record {
-      answer = judge_answer (model_of s) sys (length c.args.marks.now) s.indexed _ rules c.judge-rules.result told.answer;
-      exactly = judge_exactly (model_of s) sys (length c.args.marks.now) s.indexed _ rules c.judge-rules.result told.answer told.exactly;
+      answer = judge_answer (model_of s) sys (length c.args.marks.now) s.indexed _ rules c.judge_rules.result told.answer;
+      exactly = judge_exactly (model_of s) sys (length c.args.marks.now) s.indexed _ rules c.judge_rules.result told.answer told.exactly;
       marks = told.marks;
     }
