@@ -1,5 +1,5 @@
 -- What a rule answers and leaves, by what stands against it. Assumes nothing.
-use Rattle.std.proofs.Common.{◌≡◌, ℕ, ◌≤◌, Bool, true, false, cond, ◌||◌, List, [], ◌∷◌, ◌++◌, length, Some, None, Option, sym, refl, ap, ◌∙◌, arith}
+use Rattle.std.proofs.Common.{◌≡◌, ℕ, ◌≤◌, true, false, cond, ◌||◌, List, [], ◌∷◌, ◌++◌, length, Some, None, Option, sym, ap, ◌∙◌, arith}
 use Rattle.std.proofs.lemmas.List.{length_push}
 use Rattle.std.specs.Option.{option_map}
 use Rattle.clauses.specs.Steps.{rewritten_line}
@@ -8,7 +8,7 @@ use Rattle.clauses.specs.declared.literals.Literal.{Literal}
 use Rattle.clauses.specs.Refusals.{Cause, first_of}
 use Rattle.clauses.specs.Rules.{rule_causes, rule_line}
 use Rattle.clauses.proofs.First.{first_before, first_last}
-use Rattle.calls.specs.Calls.{Call, Answer, rule, resolve, rewrite, enter, stay, verdict, judge, loop, row, ready, end, drop, now, later, line, line_at, with_made, resolved_of, entered_of, stayed_of, refused, with_line, with_opened, with_row, waits_for, now_of, later_of, answer, after, answer_by, after_by, gives, leaves, causes, full, line_waitless}
+use Rattle.calls.specs.Calls.{Call, rule, resolve, rewrite, enter, stay, verdict, judge, loop, row, ready, end, drop, now, later, line, line_at, with_made, resolved_of, entered_of, stayed_of, refused, with_line, with_opened, with_row, waits_for, now_of, later_of, answer, after, answer_by, after_by, gives, leaves, causes, full, line_waitless}
 use Rattle.calls.specs.declared.waits.Wait.{Wait}
 use Rattle.calls.specs.Loops.{closed_row, loop_at, supposed}
 use Rattle.calls.specs.Models.{Loop, Model}

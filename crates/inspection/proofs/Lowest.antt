@@ -1,11 +1,11 @@
 -- The search for the lowest refuting line: one turn of it, and what it comes to. Assumes nothing.
-use Rattle.std.proofs.Common.{◌≡◌, ℕ, zero, suc, ◌+◌, ◌<◌, ◌≤◌, Bool, true, false, cond, List, [], ◌∷◌, length, get_or, take, drop, sym, refl, ap, ◌∙◌, subst, arith, get_or-take}
+use Rattle.std.proofs.Common.{◌≡◌, ℕ, zero, suc, ◌+◌, ◌<◌, ◌≤◌, Bool, true, false, cond, List, [], ◌∷◌, length, get_or, take, drop, refl, ap, ◌∙◌, subst, arith, get_or-take}
 use Rattle.std.proofs.lemmas.List.{at_drop_more, at_drop_all, length-take-le}
 use Rattle.clauses.specs.declared.lines.Line.{Line}
 use Rattle.clauses.specs.Lines.{refutes, blank}
 use Rattle.inspection.specs.declared.verdicts.Verdict.{Verdict}
 use Rattle.inspection.specs.declared.verdicts.Verdict.TheVariants.{Impossible, Undecided}
-use Rattle.calls.specs.Calls.{Answer, lowest, impossible, undecided}
+use Rattle.calls.specs.Calls.{lowest, impossible, undecided}
 use Rattle.inspection.specs.Told.{Lowest, told_verdict}
 
 module _ (xs : List Line) (made : ℕ) (fits : made ≤ length xs) where

@@ -1,5 +1,5 @@
 -- Lines made by steps are lawful, and have place. Assumes nothing.
-use Rattle.std.proofs.Common.{◌≡◌, ℕ, suc, ◌+◌, ◌*◌, ◌<◌, ◌≤◌, Bool, true, false, cond, not, ◌&&◌, ◌||◌, eqb, leb, List, [], ◌∷◌, length, get_or, take, drop, is_some, Some, None, Ok, Err, Option, Result, sym, refl, ap, ◌∙◌, subst, true≢false, arith, eqb-true, le-leb, leb-true, MatchResult}
+use Rattle.std.proofs.Common.{◌≡◌, ℕ, ◌≤◌, Bool, true, false, cond, not, ◌&&◌, eqb, leb, List, [], ◌∷◌, length, is_some, Some, None, Ok, Err, Option, Result, sym, refl, ap, ◌∙◌, subst, true≢false, arith, eqb-true, le-leb, leb-true, MatchResult}
 use Rattle.std.specs.Option.{option_map}
 use Rattle.clauses.specs.declared.kinds.Kind.{Kind}
 use Rattle.clauses.specs.declared.kinds.Kind.TheVariants.{Start, Global, Step, Sometime}
@@ -20,7 +20,6 @@ use Rattle.calls.specs.declared.waits.Wait.{Wait}
 use Rattle.calls.specs.Calls.{entered_of, resolve_causes, resolved_of, rewrite_causes, stayed_of, wait_causes}
 use Rattle.inspection.specs.Told.{Makes}
 use Rattle.calls.specs.Lawful.{lawful_line, sized, waited}
-use Rattle.calls.specs.Models.{Loop}
 use Rattle.calls.specs.Waits.{and_then, held, place_of, wait_for, wait_of}
 use Rattle.calls.proofs.Keeping.{UnderIf, all_none, both, first_so, not_false, second_so}
 

@@ -1,5 +1,5 @@
 -- What the loop over the fields of a work keeps. Assumes nothing.
-use Rattle.std.proofs.Common.{◌≡◌, ℕ, suc, ◌+◌, ◌<◌, ◌≤◌, true, false, List, [], ◌∷◌, ◌++◌, length, IfOk, Ok, Err, Result, sym, refl, ap, ◌∙◌, subst, append_assoc, arith}
+use Rattle.std.proofs.Common.{◌≡◌, ℕ, suc, ◌+◌, ◌<◌, ◌≤◌, true, false, List, ◌++◌, length, IfOk, Ok, Err, Result, sym, refl, ap, ◌∙◌, append_assoc, arith}
 use Rattle.clauses.specs.declared.lines.Line.{Line}
 use Rattle.fields.specs.declared.shapes.Source.TheVariants as source
 use Rattle.fields.specs.declared.walk.Reader.{Reader}

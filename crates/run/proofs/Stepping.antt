@@ -8,11 +8,9 @@ use Rattle.fields.specs.declared.walk.Reader.{Reader}
 use Rattle.fields.specs.Shown as shape
 use Rattle.fields.specs.declared.shapes.Source.{Source}
 use Rattle.fields.specs.declared.shapes.Source.TheVariants as source
-use Rattle.calls.specs.Calls.{Answer, Call, line, refused, answer, after, answer_by, after_by, causes, gives, leaves}
-use Rattle.calls.specs.Calls as call
+use Rattle.calls.specs.Calls.{Answer, line, refused, answer, after, answer_by, after_by, causes, gives, leaves}
 use Rattle.calls.specs.Models.{Model}
 use Rattle.run.specs.Files.{Item, shown, flawed, items_from}
-use Rattle.run.specs.Parts.{literals_of}
 use Rattle.run.specs.Runs.{Book, stopped, rules_from, rule_call}
 
 -- the items from p on, where it is known what stands there

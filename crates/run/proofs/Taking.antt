@@ -1,5 +1,5 @@
 -- What the loop over the rules of a book keeps. Assumes nothing.
-use Rattle.std.proofs.Common.{◌≡◌, ℕ, zero, suc, ◌+◌, ◌<◌, ◌≤◌, min, List, length, Ok, Result, sym, refl, ap, ◌∙◌, subst, arith}
+use Rattle.std.proofs.Common.{◌≡◌, ℕ, zero, suc, ◌+◌, ◌<◌, ◌≤◌, min, List, length, Ok, Result, sym, refl, ap, ◌∙◌, arith}
 use Rattle.fields.specs.declared.shapes.Source.TheVariants as source
 use Rattle.fields.specs.declared.walk.Reader.{Reader}
 use Rattle.inspection.specs.declared.opening.Opening.{Opening}

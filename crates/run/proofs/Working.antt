@@ -1,20 +1,19 @@
 -- One field of a work, as the walk over it goes on. Assumes nothing.
-use Rattle.std.proofs.Common.{◌≡◌, ℕ, suc, ◌+◌, ◌<◌, ◌≤◌, Bool, true, false, List, [], ◌∷◌, ◌++◌, length, is_some, Some, None, Ok, Err, Option, Result, sym, refl, ap, ◌∙◌, subst, true≢false, arith}
+use Rattle.std.proofs.Common.{◌≡◌, ℕ, suc, ◌+◌, ◌<◌, ◌≤◌, true, List, ◌++◌, length, is_some, Some, None, Ok, Err, Option, Result, sym, refl, ap, ◌∙◌, subst, true≢false, arith}
 use Rattle.fields.specs.declared.flaws.ReaderFault.{ReaderFault}
 use Rattle.fields.specs.declared.shapes.Source.{Source}
 use Rattle.fields.specs.declared.shapes.Source.TheVariants as source
 use Rattle.fields.specs.declared.walk.Reader.{Reader}
 use Rattle.fields.specs.Flaws.{flaw_number}
 use Rattle.fields.specs.Layouts.{stands}
-use Rattle.fields.specs.Parse.{Parsed, ended, shows, refuses, parse}
+use Rattle.fields.specs.Parse.{Parsed, ended, shows, refuses}
 use Rattle.fields.specs.Shown.{Shown, begin, rule, resolve, rewrite, enter, stay, table_plan, ring}
 use Rattle.fields.specs.Walk.{Moves, parsed}
 use Rattle.calls.specs.Models.{Model}
 use Rattle.inspection.proofs.Adding.{after_grows}
 use Rattle.run.specs.declared.faults.Refused.{Refused}
 use Rattle.run.specs.declared.faults.Refused.TheVariants as why
-use Rattle.run.specs.Faults.{refused_number}
-use Rattle.run.specs.Files.{Item, shown, flawed, items_from}
+use Rattle.run.specs.Files.{Item, items_from}
 use Rattle.run.specs.Runs.{Request, after_work, afterwards, asks, denied, reply, request_of}
 use Rattle.run.specs.declared.outcomes.Outcome.{Outcome}
 use Rattle.run.specs.Steps.{Did, IsWork, OneLine, left_ahead, lines_ahead, told_outcome}

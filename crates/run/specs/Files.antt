@@ -1,7 +1,7 @@
 -- The fields of a file, in order. Assumes nothing.
 use Rattle.std.specs.Prelude.{ℕ, zero, suc, List, [], ◌∷◌, length}
 use Rattle.fields.specs.declared.shapes.Source.{Source}
-use Rattle.fields.specs.Parse.{Parsed, ended, shows, refuses, parse}
+use Rattle.fields.specs.Parse.{ended, shows, refuses, parse}
 use Rattle.fields.specs.Shown.{Shown}
 
 -- a field that is shown, or the number by which the reader refuses it; each with its offset

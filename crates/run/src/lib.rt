@@ -1,4 +1,6 @@
 // The run of a book and a work, and its report.
+#![tactic(auto)]
+
 mod books;
 pub mod faults;
 pub mod outcomes;

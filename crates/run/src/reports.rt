@@ -13,7 +13,7 @@ use crate::text::{write_book, write_refused_book, write_unread_book, write_unrea
 use crate::works::write_work;
 use clauses::Line;
 use fields::{Reader, Source};
-use std::alloc::Global;
+use std::alloc::{AllocError, Global};
 use std::fmt;
 
 // The longest file that is read.
@@ -30,7 +30,12 @@ fn readable(file: Option<&[u8]>) -> Option<&[u8]>
 }
 
 // Takes in the book, goes through the work, and writes what came of it.
-fn write_run(text: &mut String, book: &[u8], work: &[u8], lines: &mut [Line]) -> fmt::Result
+fn write_run(
+    text: &mut String,
+    book: &[u8],
+    work: &[u8],
+    lines: &mut [Line],
+) -> Result<(), AllocError>
     ensures text { OnOk result (string_bytes text.new ≡ string_bytes text.old ++ run_text work.now (book_of (length lines.old) (items_of source.Book book.now))) }
     ensures table { OnOk result (lines.new ≡ overlay (made_by work.now (book_of (length lines.old) (items_of source.Book book.now))) lines.old) }
 {

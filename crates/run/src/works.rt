@@ -16,7 +16,7 @@ use crate::text::{write_outcome, write_refused, write_verdict};
 use clauses::Literal;
 use fields::{Field, Reader, Source};
 use inspection::Inspection;
-use std::fmt;
+use std::alloc::AllocError;
 
 // Does what a field of a work asks for.
 fn perform(inspection: &mut Inspection, field: Field) -> Result<Outcome, Refused>
@@ -77,7 +77,7 @@ fn write_next(
     number: usize,
     reader: &mut Reader,
     inspection: &mut Inspection,
-) -> Result<bool, fmt::Error>
+) -> Result<bool, AllocError>
     requires { IsWork reader.old.source }
     ensures same { (reader.new.bytes.now ≡ reader.old.bytes.now) × (reader.new.source ≡ reader.old.source) }
     ensures grows { length (model_of inspection.old).lines ≤ length (model_of inspection.new).lines }
@@ -109,7 +109,11 @@ fn write_next(
 }
 
 // Writes a line for each field of the work, and the verdict.
-pub(crate) fn write_work(text: &mut String, work: &[u8], inspection: &mut Inspection) -> fmt::Result
+pub(crate) fn write_work(
+    text: &mut String,
+    work: &[u8],
+    inspection: &mut Inspection,
+) -> Result<(), AllocError>
     ensures text { OnOk result (string_bytes text.new ≡ string_bytes text.old ++ work_text (model_of inspection.old) 0 (items_of (source.Work (model_of inspection.old).indices) work.now)) }
     ensures left { OnOk result ((model_of inspection.new).lines ≡ (after_work (model_of inspection.old) (items_of (source.Work (model_of inspection.old).indices) work.now)).lines) }
     ensures grows { length (model_of inspection.old).lines ≤ length (model_of inspection.new).lines }

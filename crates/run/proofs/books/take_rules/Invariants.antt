@@ -1,5 +1,4 @@
 use Rattle.std.proofs.Common.{◌-◌, length}
-use Rattle.inspection.specs.Held.{model_of}
 use Rattle.run.proofs.Taking.{Sofar}
 use Rattle.run.proofs.books.take_rules.Given as goal
 

@@ -13,23 +13,23 @@ use Rattle.run.proofs.plan_fields.judge_ring.Goals.{After-indices}
 
 -- the truths that are handed on are those of the field
 module _ (c : After-indices) where
-  truths : take (c.pairs-into-t.result - 0) c.pairs-into-t.new.places ≡ pairs_of c.args.truths.now
-  truths = handed c.pairs-into-t.result c.pairs-into-t.new.places (pairs_of c.args.truths.now) c.pairs-into-t.ensures.value
+  truths : take (c.pairs_into-t.result - 0) c.pairs_into-t.new.places ≡ pairs_of c.args.truths.now
+  truths = handed c.pairs_into-t.result c.pairs_into-t.new.places (pairs_of c.args.truths.now) c.pairs_into-t.ensures.value
 
-  causes : first_of (ring_causes c.args.states (model_of c.args.inspection.now).indices c.args.back (pairs_of c.args.truths.now)) ≡ first_of (ring_causes c.args.states c.indices.result c.args.back (take (c.pairs-into-t.result - 0) c.pairs-into-t.new.places))
+  causes : first_of (ring_causes c.args.states (model_of c.args.inspection.now).indices c.args.back (pairs_of c.args.truths.now)) ≡ first_of (ring_causes c.args.states c.indices.result c.args.back (take (c.pairs_into-t.result - 0) c.pairs_into-t.new.places))
   causes = sym (λ i. first_of (ring_causes c.args.states (c.indices.ensures i) c.args.back (truths i)))
 
-  system : ring_system c.args.states c.indices.result c.args.back (take (c.pairs-into-t.result - 0) c.pairs-into-t.new.places) ≡ ring_system c.args.states (model_of c.args.inspection.now).indices c.args.back (pairs_of c.args.truths.now)
+  system : ring_system c.args.states c.indices.result c.args.back (take (c.pairs_into-t.result - 0) c.pairs_into-t.new.places) ≡ ring_system c.args.states (model_of c.args.inspection.now).indices c.args.back (pairs_of c.args.truths.now)
   system = λ i. ring_system c.args.states (c.indices.ensures i) c.args.back (truths i)
 
-pub returns-in-err-fill : goal.returns-in-err-fill
-returns-in-err-fill c =
-    let at = (goal.at.returns-in-err-fill c).After-indices in
-    let p = err_from_is_err_and c.from-residual.result c.from-residual.ensures.1 in
-    ap told_judgement p.1 ∙ ap (λ e. refused (plan_number e)) p.2 ∙ plan_denied (model_of c.args.inspection.now) _ _ _ (causes at ∙ c.in-err-fill.ensures.answer)
+pub returns-in_err-fill : goal.returns-in_err-fill
+returns-in_err-fill c =
+    let at = (goal.at.returns-in_err-fill c).After-indices in
+    let p = err_from_is_err_and c.from_residual.result c.from_residual.ensures.1 in
+    ap told_judgement p.1 ∙ ap (λ e. refused (plan_number e)) p.2 ∙ plan_denied (model_of c.args.inspection.now) _ _ _ (causes at ∙ c.in_err-fill.ensures.answer)
 
 pub returns : goal.returns
 returns c =
     let at = (goal.at.returns c).After-indices in
-    let filled = c.in-ok-fill.ensures in
+    let filled = c.in_ok-fill.ensures in
     plan_judged (model_of c.args.inspection.now) _ _ _ _ (causes at ∙ filled.answer) (filled.after ∙ system at) c.judge.ensures.answer

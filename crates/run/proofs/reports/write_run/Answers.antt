@@ -1,4 +1,4 @@
-use Rattle.std.proofs.Common.{◌≡◌, ◌++◌, length, Ok, string_bytes, sym, ap, ◌∙◌, append_assoc, rules}
+use Rattle.std.proofs.Common.{◌≡◌, ◌++◌, length, Ok, string_bytes, sym, ap, ◌∙◌, append_assoc}
 use Rattle.std.proofs.lemmas.Result.{IfOk-weaker}
 use Rattle.fields.specs.declared.shapes.Source.TheVariants as source
 use Rattle.calls.specs.Models.{overlay}
@@ -11,20 +11,21 @@ use Rattle.run.proofs.Going.{laid_as}
 use Rattle.run.proofs.Taking.{whole}
 use Rattle.run.proofs.reports.write_run.Goals as goal
 
-pub returns-in-ok-write-book : goal.returns-in-ok-write-book
-returns-in-ok-write-book c =
+pub returns-in_ok-write_book-in-Ok-take_rules : goal.returns-in_ok-write_book-in-Ok-take_rules
+returns-in_ok-write_book-in-Ok-take_rules c =
     let n = length c.args.lines.now in
-    let m = model_of c.take-rules.new.inspection in
-    let rules = c.in-Ok-take-rules.rules in
-    let taken_in : book_of n (items_of source.Book c.args.book.now) ≡ taken m rules = whole n c.args.book.now c.new-reader.result c.begin.new.reader c.in-Ok.opening (model_of c.open-inspection.result) m (Ok rules) c.new-reader.ensures.lent c.begin.ensures.same.0 c.in-Ok.ensures.begun c.open-inspection.ensures.model c.in-Ok-take-rules.ensures.rules in
-    let s' = c.write-work.new.inspection in
-    let taken-table : c.take-rules.new.inspection.lines.now ≡ overlay m.lines c.args.lines.now = c.take-rules.ensures.table ∙ ap (overlay m.lines) c.open-inspection.ensures.table in
-    let laid : s'.lines.now ≡ overlay (model_of s').lines c.args.lines.now = c.write-work.ensures.table ∙ ap (overlay (model_of s').lines) taken-table ∙ overlay_twice m.lines (model_of s').lines c.args.lines.now c.write-work.ensures.grows in
-    let left = IfOk-weaker c.write-work.result _ _ (λ _ e. e ∙ ap (made_by c.args.work.now) (sym taken_in)) c.write-work.ensures.left in
+    let m = model_of c.take_rules.new.inspection in
+    let rules = c.in-Ok-take_rules.rules in
+    let taken_in : book_of n (items_of source.Book c.args.book.now) ≡ taken m rules = whole n c.args.book.now c.new-reader.result c.begin.new.reader c.in-Ok.opening (model_of c.open-inspection.result) m (Ok rules) c.new-reader.ensures.lent c.begin.ensures.same.0 c.in-Ok.ensures.begun c.open-inspection.ensures.model c.in-Ok-take_rules.ensures.rules in
+    let s' = c.write_work.new.inspection in
+    let taken-table : c.take_rules.new.inspection.lines.now ≡ overlay m.lines c.args.lines.now = c.take_rules.ensures.table ∙ ap (overlay m.lines) c.open-inspection.ensures.table in
+    let laid : s'.lines.now ≡ overlay (model_of s').lines c.args.lines.now = c.write_work.ensures.table ∙ ap (overlay (model_of s').lines) taken-table ∙ overlay_twice m.lines (model_of s').lines c.args.lines.now c.write_work.ensures.grows in
+    let left = IfOk-weaker c.write_work.result _ _ (λ _ e. e ∙ ap (made_by c.args.work.now) (sym taken_in)) c.write_work.ensures.left in
     let before = string_bytes c.args.text.now in
     let lines = work_text m 0 (items_of (source.Work m.indices) c.args.work.now) in
-    let first = c.in-ok-write-book.ensures ∙ ap (λ k. before ++ book_text k rules) c.indices.ensures in
+    let first = c.in_ok-write_book-in-Ok-take_rules.ensures ∙ ap (λ k. before ++ book_text k rules) c.indices.ensures in
+    let named = sym (c.write_work.ensures.lent ∙ c.take_rules.ensures.lent ∙ c.open-inspection.ensures.lent) in
     record {
-      text = IfOk-weaker c.write-work.result _ _ (λ _ e. e ∙ ap (λ t. t ++ lines) first ∙ append_assoc before (book_text m.indices rules) lines ∙ ap (λ b. before ++ run_text c.args.work.now b) (sym taken_in)) c.write-work.ensures.text;
-      table = laid_as c.write-work.result _ (model_of s').lines _ c.args.lines.now (search rules) left;
+      text = IfOk-weaker c.write_work.result _ _ (λ _ e. e ∙ ap (λ t. t ++ lines) first ∙ append_assoc before (book_text m.indices rules) lines ∙ ap (λ b. before ++ run_text c.args.work.now b) (sym taken_in)) c.write_work.ensures.text;
+      table = laid_as c.write_work.result _ (model_of s').lines _ c.args.lines.now (c.lines-in-Ok-take_rules-1.given.1.1 named ∙ laid) left;
     }

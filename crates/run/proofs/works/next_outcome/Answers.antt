@@ -1,6 +1,5 @@
-use Rattle.std.proofs.Common.{◌≡◌, ℕ, ◌+◌, ◌≤◌, true, ◌++◌, length, Some, None, Ok, Err, Option, sym, refl, ap, ◌∙◌, subst, arith}
+use Rattle.std.proofs.Common.{◌≡◌, true, length, Some, Ok, Err, Option, sym, refl, ap, ◌∙◌, subst, arith}
 use Rattle.std.proofs.lemmas.Result.{err_from_is_err_and}
-use Rattle.clauses.specs.Refusals.{number_of}
 use Rattle.fields.specs.declared.shapes.Field.{Field}
 use Rattle.fields.specs.Layouts.{stands}
 use Rattle.fields.specs.Parse.{Shows, told}
@@ -16,29 +15,29 @@ use Rattle.run.proofs.works.next_outcome.Goals.{In-Some}
 
 module _ (c : In-Some) where
   -- what stands there, and that it may
-  shown : told (Ok (Some c.in-Some.field)) c.next-field.new.self.place ≡ parsed c.args.reader.now
-  shown = ap (λ o. told (Ok o) c.next-field.new.self.place) (sym c.in-Some.is) ∙ c.in-ok-field.ensures.value
+  shown : told (Ok (Some c.in-Some.field)) c.next_field.new.self.place ≡ parsed c.args.reader.now
+  shown = ap (λ o. told (Ok o) c.next_field.new.self.place) (sym c.in-Some.is) ∙ c.in_ok-field.ensures.value
 
   may : stands c.args.reader.now.source c.args.reader.now.place (shown_of c.in-Some.field) ≡ true
-  may = subst (λ (o : Option Field). Shows (Ok o) (λ f. stands c.args.reader.now.source c.args.reader.now.place f ≡ true)) c.in-Some.is c.in-ok-field.ensures.stands
+  may = subst (λ (o : Option Field). Shows (Ok o) (λ f. stands c.args.reader.now.source c.args.reader.now.place f ≡ true)) c.in-Some.is c.in_ok-field.ensures.stands
 
   short : Short (shown_of c.in-Some.field)
-  short = subst (λ (o : Option Field). Shows (Ok o) Short) c.in-Some.is c.in-ok-field.ensures.short
+  short = subst (λ (o : Option Field). Shows (Ok o) Short) c.in-Some.is c.in_ok-field.ensures.short
 
-  on : Onward (Ok (Some (Line 0))) (length c.args.reader.now.bytes.now) c.args.reader.now.place c.next-field.new.self.place
-  on = subst (λ (o : Option Field). Moves c.args.reader.now.source (Ok o) (length c.args.reader.now.bytes.now) c.args.reader.now.place c.next-field.new.self.place) c.in-Some.is c.in-ok-field.ensures.moves
+  on : Onward (Ok (Some (Line 0))) (length c.args.reader.now.bytes.now) c.args.reader.now.place c.next_field.new.self.place
+  on = subst (λ (o : Option Field). Moves c.args.reader.now.source (Ok o) (length c.args.reader.now.bytes.now) c.args.reader.now.place c.next_field.new.self.place) c.in-Some.is c.in_ok-field.ensures.moves
 
 pub perform-requires : goal.perform-requires
 perform-requires c = record { some = is_request (model_of c.args.inspection.now).indices c.args.reader.now.source c.args.reader.now.place (shown_of c.in-Some.field) c.requires (may (goal.at.perform-requires c).In-Some); short = short (goal.at.perform-requires c).In-Some }
 
-pub returns-in-err-field : goal.returns-in-err-field
-returns-in-err-field c =
+pub returns-in_err-field : goal.returns-in_err-field
+returns-in_err-field c =
     let s = c.args.inspection.now in
     let r = c.args.reader.now in
-    let r' = c.next-field.new.self in
-    let p = err_from_is_err_and c.from-residual.result c.from-residual.ensures.1 in
-    let same = c.next-field.ensures.same in
-    let next = c.in-err-field.ensures in
+    let r' = c.next_field.new.self in
+    let p = err_from_is_err_and c.from_residual.result c.from_residual.ensures.1 in
+    let same = c.next_field.ensures.same in
+    let next = c.in_err-field.ensures in
     let e = p.1 ∙ ap Err p.2 in
     record {
       same = (same.0, same.1);
@@ -46,35 +45,35 @@ returns-in-err-field c =
       grows = omega arith;
       table = sym (overlay_same s.lines.now s.made);
       lent = refl;
-      step = subst (λ x. OneLine x r (model_of s) r' (model_of s)) (sym e) (reader_refused r r' (model_of s) c.in-err-field.field-0.0 next.value same.0 same.1);
+      step = subst (λ x. OneLine x r (model_of s) r' (model_of s)) (sym e) (reader_refused r r' (model_of s) c.in_err-field.field-0.0 next.value same.0 same.1);
     }
 
-pub returns-in-default : goal.returns-in-default
-returns-in-default c =
+pub returns-in_default : goal.returns-in_default
+returns-in_default c =
     let s = c.args.inspection.now in
     let r = c.args.reader.now in
-    let same = c.next-field.ensures.same in
-    let over = ap (λ o. told (Ok o) c.next-field.new.self.place) (sym c.in-default.is) ∙ c.in-ok-field.ensures.value in
+    let same = c.next_field.ensures.same in
+    let over = ap (λ o. told (Ok o) c.next_field.new.self.place) (sym c.in_default.is) ∙ c.in_ok-field.ensures.value in
     record {
       same = (same.0, same.1);
       moves = tt;
       grows = omega arith;
       table = sym (overlay_same s.lines.now s.made);
       lent = refl;
-      step = none_left r c.next-field.new.self (model_of s) over;
+      step = none_left r c.next_field.new.self (model_of s) over;
     }
 
-pub returns-in-err-came : goal.returns-in-err-came
-returns-in-err-came c =
-    let at = (goal.at.returns-in-err-came c).In-Some in
+pub returns-in_err-came : goal.returns-in_err-came
+returns-in_err-came c =
+    let at = (goal.at.returns-in_err-came c).In-Some in
     let m = model_of c.args.inspection.now in
     let m' = model_of c.perform.new.inspection in
     let r = c.args.reader.now in
-    let r' = c.next-field.new.self in
-    let p = err_from_is_err_and c.from-residual-in-err-came.result c.from-residual-in-err-came.ensures.1 in
+    let r' = c.next_field.new.self in
+    let p = err_from_is_err_and c.from_residual-in_err-came.result c.from_residual-in_err-came.ensures.1 in
     let e = p.1 ∙ ap Err p.2 in
-    let same = c.next-field.ensures.same in
-    let done = c.in-err-came.ensures in
+    let same = c.next_field.ensures.same in
+    let done = c.in_err-came.ensures in
     record {
       same = (same.0, same.1);
       moves = subst (λ x. Onward x (length r.bytes.now) r.place r'.place) (sym e) (on at);
@@ -90,9 +89,9 @@ returns c =
     let m = model_of c.args.inspection.now in
     let m' = model_of c.perform.new.inspection in
     let r = c.args.reader.now in
-    let r' = c.next-field.new.self in
-    let same = c.next-field.ensures.same in
-    let done = c.in-ok-came.ensures in
+    let r' = c.next_field.new.self in
+    let same = c.next_field.ensures.same in
+    let done = c.in_ok-came.ensures in
     record {
       same = (same.0, same.1);
       moves = on at;

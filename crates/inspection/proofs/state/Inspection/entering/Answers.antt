@@ -1,4 +1,4 @@
-use Rattle.std.proofs.Common.{◌≡◌, is_some, sym, ap, ◌∙◌}
+use Rattle.std.proofs.Common.{is_some, sym, ap, ◌∙◌}
 use Rattle.inspection.specs.Held.{model_of}
 use Rattle.inspection.proofs.Making.{entered_fits, entered_makes, fits_some, waits_held}
 use Rattle.inspection.proofs.state.Inspection.entering.Goals as goal

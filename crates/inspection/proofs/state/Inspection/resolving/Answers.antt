@@ -1,4 +1,4 @@
-use Rattle.std.proofs.Common.{◌≡◌, [], Some, Option, subst}
+use Rattle.std.proofs.Common.{[], Some, Option, subst}
 use Rattle.clauses.specs.declared.lines.Line.{Line}
 use Rattle.calls.specs.Calls.{line_at, resolve_causes, resolved_of}
 use Rattle.inspection.specs.Told.{Makes}

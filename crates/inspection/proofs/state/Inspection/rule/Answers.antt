@@ -1,10 +1,10 @@
-use Rattle.std.proofs.Common.{◌≡◌, ◌<◌, ◌≤◌, [], length, take, sym, refl, ap, ◌∙◌, arith, leb-false}
+use Rattle.std.proofs.Common.{◌≡◌, ◌<◌, [], length, take, sym, refl, ap, ◌∙◌, arith, leb-false}
 use Rattle.std.proofs.lemmas.List.{length-take-le, take_more_set}
 use Rattle.std.proofs.lemmas.Result.{err_from_is_err_and}
 use Rattle.clauses.specs.Refusals.{number_of}
 use Rattle.calls.specs.Calls.{line, refused, line_waitless, with_line}
 use Rattle.inspection.specs.Told.{told_line}
-use Rattle.calls.specs.Models.{Model, overlay}
+use Rattle.calls.specs.Models.{overlay}
 use Rattle.inspection.specs.Held.{model_of}
 use Rattle.calls.specs.Waits.{admitted, waitless}
 use Rattle.inspection.specs.Waits.{given_out}

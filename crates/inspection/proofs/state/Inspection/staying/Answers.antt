@@ -1,4 +1,4 @@
-use Rattle.std.proofs.Common.{◌≡◌, sym, ap, ◌∙◌}
+use Rattle.std.proofs.Common.{sym, ◌∙◌}
 use Rattle.inspection.specs.Held.{model_of}
 use Rattle.inspection.proofs.Making.{stayed_makes, waits_held}
 use Rattle.inspection.proofs.state.Inspection.staying.Goals as goal

@@ -1,10 +1,10 @@
-use Rattle.std.proofs.Common.{◌≡◌, ◌<◌, cond, [], ◌∷◌, length, take, Some, None, sym, refl, ap, ◌∙◌, arith, leb-false}
+use Rattle.std.proofs.Common.{◌≡◌, ◌<◌, cond, [], length, take, Some, None, sym, refl, ap, ◌∙◌, arith, leb-false}
 use Rattle.std.proofs.lemmas.List.{length-take-le, take_more_set}
 use Rattle.std.proofs.lemmas.Result.{err_from_is_err_and}
 use Rattle.clauses.specs.Refusals.{number_of}
 use Rattle.calls.specs.Calls.{after_by, answer_by, line, refused, with_made}
 use Rattle.inspection.specs.Told.{told_line}
-use Rattle.calls.specs.Models.{Model, overlay}
+use Rattle.calls.specs.Models.{overlay}
 use Rattle.inspection.specs.Held.{model_of}
 use Rattle.inspection.specs.Waits.{given_out}
 use Rattle.inspection.proofs.Overlays.{overlay_same, overlay_set}

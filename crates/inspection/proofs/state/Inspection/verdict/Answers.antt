@@ -1,4 +1,4 @@
-use Rattle.std.proofs.Common.{◌≡◌, ◌+◌, ◌≤◌, cond, length, take, drop, sym, ap, ◌∙◌, arith}
+use Rattle.std.proofs.Common.{◌+◌, ◌≤◌, cond, length, take, drop, sym, ap, ◌∙◌, arith}
 use Rattle.inspection.specs.declared.verdicts.Verdict.TheVariants.{Impossible, Undecided}
 use Rattle.calls.specs.Calls.{lowest, impossible}
 use Rattle.inspection.proofs.Lowest.{lowest_step, lowest_end, lowest_is}

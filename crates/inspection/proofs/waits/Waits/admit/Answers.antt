@@ -1,4 +1,4 @@
-use Rattle.std.proofs.Common.{◌≡◌, ◌<◌, ◌≤◌, Bool, cond, not, ◌&&◌, [], ◌∷◌, ◌++◌, length, take, sym, refl, ap, ◌∙◌, arith, length-take}
+use Rattle.std.proofs.Common.{sym, refl, ap, ◌∙◌, arith, length-take}
 use Rattle.calls.specs.Waits.{admitted, waitless}
 use Rattle.inspection.specs.Waits.{given_out}
 use Rattle.inspection.proofs.Given.{none_left, one_left, one_more}

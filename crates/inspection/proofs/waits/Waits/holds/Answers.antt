@@ -1,4 +1,4 @@
-use Rattle.std.proofs.Common.{◌≡◌, ◌+◌, ◌<◌, ◌≤◌, ◌||◌, length, take, drop, sym, ap, ◌∙◌, arith, length-take}
+use Rattle.std.proofs.Common.{◌+◌, ◌<◌, ◌||◌, length, drop, sym, ap, ◌∙◌, arith, length-take}
 use Rattle.calls.specs.Waits.{held}
 use Rattle.inspection.specs.Waits.{given_out}
 use Rattle.inspection.proofs.Given.{held_step, held_end}

@@ -1,9 +1,7 @@
-use Rattle.std.proofs.Common.{◌≡◌, ◌+◌, ◌*◌, ◌<◌, ◌||◌, length, take, drop, Some, sym, ap, ◌∙◌, true≢false, arith, length-take}
-use Rattle.std.specs.Option.{option_map}
-use Rattle.clauses.specs.Steps.{wait_literal}
-use Rattle.calls.specs.Waits.{held, place_of}
+use Rattle.std.proofs.Common.{◌+◌, ◌<◌, ◌||◌, length, take, drop, sym, ap, ◌∙◌, true≢false, arith, length-take}
+use Rattle.calls.specs.Waits.{held}
 use Rattle.inspection.specs.Waits.{given_out}
-use Rattle.inspection.proofs.Given.{blank, held_end, held_step, place_here, place_on}
+use Rattle.inspection.proofs.Given.{held_end, held_step, place_here, place_on}
 use Rattle.inspection.proofs.waits.Waits.literal.Goals as goal
 
 pub returns-then-same : goal.returns-then-same
