@@ -16,7 +16,7 @@ use Rattle.plans.specs.Questions.{free_target}
 use Rattle.plans.specs.Tables.{leading, moves_fit, pair, pairs_below, sized, table_causes, table_system, targets_fit, truths_fit}
 use Rattle.plans.specs.Rings.{ring_causes}
 use Rattle.plans.proofs.Every.{every_at}
-use Rattle.plans.proofs.Leading.{leading_at, leading_below, leading_count, pick}
+use Rattle.plans.proofs.Leading.{leading_at, leading_below, pick}
 
 not_first : (n : ℕ) (t : Bool) (o : Option ℕ) → is_some (cond t (Some n) o) ≡ false → (t ≡ false) × (is_some o ≡ false)
 not_first n true o h = absurd (true≢false h)
@@ -120,10 +120,6 @@ module _ (n k : ℕ) (targets : List ℕ) (truths moves : List Pair) (fits : Tab
   -- the free move of a number, by what stands after all pairs that begin below its state
   pub free_answer : (s j here v : ℕ) → s < n → here ≡ count_below pair_rank moves (pair s 0) → pick s moves (here + j) ≡ v → v ≡ free_target (table_system n k targets truths moves) s j
   free_answer s j here v l e h = sym (cond-true (ltb s n) (get_or (leading s moves) j 0) 0 (lt-ltb s n l) ∙ leading_at s moves j fits.moves_up ∙ ap (λ m. pick s moves (m + j)) (sym e) ∙ h)
-
-  -- as many free moves as pairs begin below the next state and not below this one
-  pub count_answer : (s here after : ℕ) → here ≡ count_below pair_rank moves (pair s 0) → after ≡ count_below pair_rank moves (pair (s + 1) 0) → length (leading s moves) + here ≡ after
-  count_answer s here after e f = ap (λ m. length (leading s moves) + m) e ∙ leading_count s moves ∙ sym f
 
 pub record RingFits (n k back : ℕ) (truths : List Pair) : Type 0 where
   pub sizes : Sized n k

@@ -1,8 +1,8 @@
-use Rattle.std.proofs.Common.{is_some, ap, ◌∙◌}
+use Rattle.std.proofs.Common.{arith}
+use Rattle.std.proofs.lemmas.Grind.{common_steps}
 use Rattle.ordered.proofs.Holding.{place_holds}
-use Rattle.ordered.specs.Pairs.{pair_order, pair_rank}
-use Rattle.plans.specs.Tables.{pair}
+use Rattle.ordered.specs.Pairs.{pair_order}
 use Rattle.plans.proofs.answers.listed.Goals as goal
 
 pub returns : goal.returns
-returns c = λ up. c.is_some.ensures ∙ ap is_some (c.find.ensures.is pair_order up) ∙ place_holds pair_rank c.args.truths.now (pair c.args.state c.args.atom)
+returns c = λ up. grind (arith, common_steps, c.find.ensures.is pair_order up, place_holds)

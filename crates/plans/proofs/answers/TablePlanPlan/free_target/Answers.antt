@@ -19,8 +19,9 @@ pub returns-in-Some : goal.returns-in-Some
 returns-in-Some c =
     let p = c.in-Some.step.now in
     let there = c.in-Some.ensures.lookup in
-    answer (goal.at.returns-in-Some c).After-lower-here p.second
-    (pick_there _ _ _ p (ltb-true _ _ (sym there.0)) there.1 ∙ cond-true (eqb p.first c.args.state) p.second 0 (eq-eqb _ _ c.if-step-state.true))
+    let told = answer (goal.at.returns-in-Some c).After-lower-here p.second
+    (pick_there _ _ _ p (ltb-true _ _ (sym there.0)) there.1 ∙ cond-true (eqb p.first c.args.state) p.second 0 (eq-eqb _ _ c.if-step-state.true)) in
+    cc told
 
 pub returns-in_default : goal.returns-in_default
 returns-in_default c =
