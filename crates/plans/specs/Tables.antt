@@ -1,5 +1,5 @@
 -- The system of three tables, and what stands against them. Assumes nothing.
-use Rattle.std.specs.Prelude.{ℕ, ◌+◌, ◌*◌, Bool, true, cond, not, ◌&&◌, ltb, List, [], ◌∷◌, length, take, ◌==◌, nat_le, nat_lt, slice_index}
+use Rattle.std.specs.Prelude.{ℕ, ◌+◌, ◌*◌, Bool, true, cond, not, ◌&&◌, List, [], ◌∷◌, length, take, ◌==◌, nat_le, nat_lt, slice_index}
 use Rattle.ordered.specs.declared.Pair.{Pair}
 use Rattle.ordered.specs.Lists.{ascending, holds}
 use Rattle.ordered.specs.Pairs.{pair_rank}
@@ -43,7 +43,7 @@ abbrev pub moves_fit : ℕ → List Pair → Bool
 moves_fit n moves = nat_le (length moves) 4096 && pairs_below n n moves
 
 abbrev pub all_under : ℕ → List ℕ → Bool
-all_under n numbers = every (λ t. ltb t n) numbers
+all_under n numbers = every (λ t. nat_lt t n) numbers
 
 -- every target is a state
 abbrev pub targets_fit : ℕ → ℕ → List ℕ → Bool
