@@ -1,4 +1,6 @@
 // Books whose report is known by hand: each is named, and its report printed.
+#![tactic(auto)]
+
 use clauses::{Line, Side};
 use run::report;
 use std::alloc::{AllocError, Global};

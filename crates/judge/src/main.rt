@@ -1,4 +1,6 @@
 // The judge: reads book.bin and work.bin in its folder, and prints the report.
+#![tactic(auto)]
+
 use clauses::Line;
 use run::report;
 use std::alloc::{AllocError, Global};

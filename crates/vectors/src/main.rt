@@ -1,4 +1,6 @@
 // Cases with known reports: reads them from cases.bin, and prints the name and the report of each.
+#![tactic(auto)]
+
 ghost use Rattle.std.specs.Prelude.{◌<◌, length, IfSome};
 
 use clauses::Line;
