@@ -5,10 +5,6 @@ use clauses::{Line, Side};
 use run::report;
 use std::alloc::{AllocError, Global};
 
-mod callers;
-
-use callers::show_plans;
-
 // A name, a book and a work.
 type Case = (&'static str, &'static [u8], &'static [u8]);
 
@@ -273,6 +269,5 @@ fn main(rt: HostRuntime) -> anyhow::Result<()> {
         &EMPTY_STEPS,
         &[4, 0, 2, 0, 0, 4, 0, 2, 0, 1],
         5,
-    )?;
-    show_plans(&rt)
+    )
 }

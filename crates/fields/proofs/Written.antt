@@ -132,7 +132,7 @@ pairs_again ps rest w = cut_at (4 * (length ps / 4 / 256 * 256 + length ps / 4 %
 last_again : (ps : List ℕ) → WholePairs ps → last_pairs (pair_bytes ps) ≡ Some ps
 last_again ps w = ap last_pairs (sym (append-nil (pair_bytes ps))) ∙ ap (λ o. and_then o (λ p. cond (eqb (length p.1) 0) (Some p.0) None)) (pairs_again ps [] w)
 
-plan_again : (k n : ℕ) (targets truths moves : List ℕ) → length targets ≡ 2 * n * k → WholePairs truths → WholePairs moves → table_plan_of k (plan_bytes n targets truths moves) ≡ Some (table_plan n targets truths moves)
+pub plan_again : (k n : ℕ) (targets truths moves : List ℕ) → length targets ≡ 2 * n * k → WholePairs truths → WholePairs moves → table_plan_of k (plan_bytes n targets truths moves) ≡ Some (table_plan n targets truths moves)
 plan_again k n targets truths moves wide some last =
     let after = pair_bytes truths ++ pair_bytes moves in
     (λ i. and_then (cut (2 * number_again n i * k) (targets ++ after)) (plan_pairs (number_again n i)))
@@ -140,27 +140,27 @@ plan_again k n targets truths moves wide some last =
     ∙ ap (λ o. and_then o (λ u. option_map (table_plan n targets u.0) (last_pairs u.1))) (pairs_again truths (pair_bytes moves) some)
     ∙ ap (option_map (table_plan n targets truths)) (last_again moves last)
 
-ring_again : (n back : ℕ) (truths : List ℕ) → WholePairs truths → ring_of (ring_bytes n back truths) ≡ Some (ring n back truths)
+pub ring_again : (n back : ℕ) (truths : List ℕ) → WholePairs truths → ring_of (ring_bytes n back truths) ≡ Some (ring n back truths)
 ring_again n back truths w = λ i. option_map (ring (number_again n i) (number_again back i)) (last_again truths w i)
 
 -- a field that may stand at a place is read from its tag and its value
-layout_value : (s : Source) (p : ℕ) (f : Shown) → Fitting s f → stands s p f ≡ true → placed s p (layout s (tag_of f) (value_of f)) ≡ Ok f
+layout_value : (s : Source) (p : ℕ) (f : Shown) → Fitting f → stands s p f ≡ true → placed s p (layout s (tag_of f) (value_of f)) ≡ Ok f
 layout_value Book p (begin k) fits may = ap (λ b. cond b (Ok (begin k)) (Err 4)) may
 layout_value Book p (rule k i l r) fits may = ap (λ o. placed Book p (or_length o)) (rule_value k i l r fits.0 fits.1) ∙ ap (λ b. cond b (Ok (rule k i l r)) (Err 4)) may
 layout_value Book p (resolve a b l) fits may = absurd (false≢true may)
 layout_value Book p (rewrite n) fits may = absurd (false≢true may)
 layout_value Book p (enter n) fits may = absurd (false≢true may)
 layout_value Book p (stay n) fits may = absurd (false≢true may)
-layout_value Book p (table_plan n targets truths moves) fits may = absurd (false≢true may)
-layout_value Book p (ring n back truths) fits may = absurd (false≢true may)
+layout_value Book p (table_plan n targets truths moves) fits may = absurd fits
+layout_value Book p (ring n back truths) fits may = absurd fits
 layout_value (Work k) p (begin c) fits may = absurd (false≢true may)
 layout_value (Work k) p (rule c i l r) fits may = absurd (false≢true may)
 layout_value (Work k) p (resolve a b l) fits may = λ i. Ok (resolve (number_again a i) (number_again b i) (number_again l i))
 layout_value (Work k) p (rewrite n) fits may = ap (λ x. Ok (rewrite x)) (number_again n)
 layout_value (Work k) p (enter n) fits may = ap (λ x. Ok (enter x)) (number_again n)
 layout_value (Work k) p (stay n) fits may = ap (λ x. Ok (stay x)) (number_again n)
-layout_value (Work k) p (table_plan n targets truths moves) fits may = ap or_length (plan_again k n targets truths moves fits.1 fits.2 fits.3)
-layout_value (Work k) p (ring n back truths) fits may = ap or_length (ring_again n back truths fits.2)
+layout_value (Work k) p (table_plan n targets truths moves) fits may = absurd fits
+layout_value (Work k) p (ring n back truths) fits may = absurd fits
 
 -- what is read of a whole field, and of one that isn't
 pub parse_whole : (s : Source) (bs : List ℕ) (p t : ℕ) (v : List ℕ) (x : Result Shown ℕ) → p < length bs → Some (t, v) ≡ split (drop p bs) → x ≡ placed s p (layout s t v) → with_place x (p + 3 + length v) ≡ parse s bs p
@@ -170,7 +170,7 @@ pub parse_broken : (s : Source) (bs : List ℕ) (p : ℕ) → p < length bs → 
 parse_broken s bs p inside parts = sym (λ i. cond (lt-ltb p (length bs) inside i) (field_at s (length bs) p (sym parts i)) (at_end s p))
 
 -- what is written is read again
-pub parse_written : (s : Source) (bs : List ℕ) (p : ℕ) (x : Parsed) → x ≡ parse s bs p → (f : Shown) (rest : List ℕ) → drop p bs ≡ bytes_of f ++ rest → Fitting s f → stands s p f ≡ true → x ≡ shows f (p + length (bytes_of f))
+pub parse_written : (s : Source) (bs : List ℕ) (p : ℕ) (x : Parsed) → x ≡ parse s bs p → (f : Shown) (rest : List ℕ) → drop p bs ≡ bytes_of f ++ rest → Fitting f → stands s p f ≡ true → x ≡ shows f (p + length (bytes_of f))
 parse_written s bs p x is f rest e fits may =
     let inside : p < length bs = omega (arith, length-drop p bs, ap length e) in
     let past : p + 3 + length (value_of f) ≡ p + length (bytes_of f) = omega arith in

@@ -96,19 +96,16 @@ or_length (Some f) = Ok f
 abbrev pub book_layout : ℕ → List ℕ → Result Shown ℕ
 book_layout tag value = cond (tag == 1) (or_length (begin_of value)) (cond (tag == 2) (or_length (rule_of value)) (Err 2))
 
--- in a work with k indices
-abbrev pub work_layout : ℕ → ℕ → List ℕ → Result Shown ℕ
-work_layout k tag value =
+abbrev pub work_layout : ℕ → List ℕ → Result Shown ℕ
+work_layout tag value =
     cond (tag == 3) (or_length (option_map (λ n. resolve n.0 n.1 n.2) (resolve_of value)))
     (cond (tag == 4) (or_length (option_map rewrite (line_of value)))
     (cond (tag == 5) (or_length (option_map enter (line_of value)))
-    (cond (tag == 6) (or_length (option_map stay (line_of value)))
-    (cond (tag == 13) (or_length (table_plan_of k value))
-    (cond (tag == 14) (or_length (ring_of value)) (Err 2))))))
+    (cond (tag == 6) (or_length (option_map stay (line_of value))) (Err 2))))
 
 abbrev pub layout : Source → ℕ → List ℕ → Result Shown ℕ
 layout Book tag value = book_layout tag value
-layout (Work indices) tag value = work_layout indices tag value
+layout (Work indices) tag value = work_layout tag value
 
 -- where a field may stand: a begin at the start of a book, a rule after it, and a field of a higher tag at any place of a work
 abbrev pub stands : Source → ℕ → Shown → Bool

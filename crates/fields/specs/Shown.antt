@@ -95,17 +95,28 @@ abbrev pub indices_of : Source → ℕ
 indices_of Book = 0
 indices_of (Work indices) = indices
 
--- both sides of a rule hold whole literals, a number fits two bytes, a table plan has a target for each state and index,
--- truths and moves are whole pairs, and a value is no longer than its two bytes of length can say
-abbrev pub Fitting : Source → Shown → Type 0
-Fitting source (begin k) = Unit {0}
-Fitting source (rule kind index left right) = Paired left × Paired right
-Fitting source (resolve a b l) = (a < 65536) × (b < 65536) × (l < 65536)
-Fitting source (rewrite n) = n < 65536
-Fitting source (enter n) = n < 65536
-Fitting source (stay n) = n < 65536
-Fitting source (table_plan n targets truths moves) = (n < 65536) × (length targets ≡ 2 * n * indices_of source) × WholePairs truths × WholePairs moves × (length (plan_bytes n targets truths moves) < 65536)
-Fitting source (ring n back truths) = (n < 65536) × (back < 65536) × WholePairs truths × (length (ring_bytes n back truths) < 65536)
+-- both sides of a rule hold whole literals, and a number fits two bytes; a plan is in no file yet
+abbrev pub Fitting : Shown → Type 0
+Fitting (begin k) = Unit {0}
+Fitting (rule kind index left right) = Paired left × Paired right
+Fitting (resolve a b l) = (a < 65536) × (b < 65536) × (l < 65536)
+Fitting (rewrite n) = n < 65536
+Fitting (enter n) = n < 65536
+Fitting (stay n) = n < 65536
+Fitting (table_plan n targets truths moves) = ⊥
+Fitting (ring n back truths) = ⊥
+
+-- a plan's numbers fit two bytes, a table plan has a target for each state and index, truths and moves are whole pairs, and the value is
+-- no longer than its two bytes of length can say
+abbrev pub FittingIn : Source → Shown → Type 0
+FittingIn source (begin k) = Fitting (begin k)
+FittingIn source (rule kind index left right) = Fitting (rule kind index left right)
+FittingIn source (resolve a b l) = Fitting (resolve a b l)
+FittingIn source (rewrite n) = Fitting (rewrite n)
+FittingIn source (enter n) = Fitting (enter n)
+FittingIn source (stay n) = Fitting (stay n)
+FittingIn source (table_plan n targets truths moves) = (n < 65536) × (length targets ≡ 2 * n * indices_of source) × WholePairs truths × WholePairs moves × (length (plan_bytes n targets truths moves) < 65536)
+FittingIn source (ring n back truths) = (n < 65536) × (back < 65536) × WholePairs truths × (length (ring_bytes n back truths) < 65536)
 
 -- a count of literals is a byte, so a side has 510 bytes at most; no part of a plan is longer than a value
 abbrev pub Short : Shown → Type 0

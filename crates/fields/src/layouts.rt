@@ -1,7 +1,7 @@
 // From the bytes of one field to what they show.
 ghost use Rattle.std.specs.Prelude.{◌≡◌, ℕ, ◌+◌, ◌≤◌, true, ◌++◌, length, drop, IfSome, IfOk, nat_le};
 ghost use Rattle.std.specs.Option.{option_map};
-ghost use Rattle.fields.specs.Shown.{tag_of, shown_of, Short, written, number_bytes, resolve_bytes, pair_bytes, Says, Paired, WholePairs, Fitting};
+ghost use Rattle.fields.specs.Shown.{tag_of, shown_of, Short, written, number_bytes, resolve_bytes, pair_bytes, Says, Paired, WholePairs, Fitting, FittingIn};
 ghost use Rattle.fields.specs.declared.shapes.Source.TheVariants.{Book, Work};
 ghost use Rattle.fields.specs.Layouts.{stands, split, counted, begin_of, rule_of, line_of, resolve_of, numbered, pairs, last_pairs, table_plan_of, ring_of, layout, work_layout, placed, or_wrong, told_flaw};
 
@@ -38,7 +38,7 @@ fn counted(bytes: &[u8]) -> Option<(&[u8], &[u8])>
 fn begin_field(value: &[u8]) -> Option<Field<'_>>
     ensures value { option_map shown_of result ≡ begin_of value.now }
     ensures short { IfSome result (λ f. Short (shown_of f)) }
-    ensures whole { IfSome result (λ f. Fitting Book (shown_of f)) }
+    ensures whole { IfSome result (λ f. Fitting (shown_of f)) }
 {
     let [indices] = value else {
         return None;
@@ -50,7 +50,7 @@ fn begin_field(value: &[u8]) -> Option<Field<'_>>
 fn rule_field(value: &[u8]) -> Option<Field<'_>>
     ensures value { option_map shown_of result ≡ rule_of value.now }
     ensures short { IfSome result (λ f. Short (shown_of f)) }
-    ensures whole { IfSome result (λ f. Fitting Book (shown_of f)) }
+    ensures whole { IfSome result (λ f. Fitting (shown_of f)) }
 {
     let [kind, index, sides @ ..] = value else {
         return None;
@@ -72,7 +72,7 @@ fn rule_field(value: &[u8]) -> Option<Field<'_>>
 fn book_field(offset: usize, tag: u8, value: &[u8]) -> Result<Field<'_>, Flaw>
     ensures value { told_flaw result ≡ placed Book offset (layout Book tag value.now) }
     ensures short { IfOk result (λ f. Short (shown_of f)) }
-    ensures whole { IfOk result (λ f. Fitting Book (shown_of f)) }
+    ensures whole { IfOk result (λ f. Fitting (shown_of f)) }
 {
     let shown = match tag {
         1 => begin_field(value),
@@ -153,7 +153,7 @@ fn table_plan_field(indices: u8, value: &[u8]) -> Option<Field<'_>>
     ensures value { option_map shown_of result ≡ table_plan_of indices value.now }
     ensures short { IfSome result (λ f. Short (shown_of f)) }
     ensures sound { IfSome result (λ f. Says (shown_of f) 13 value.now) }
-    ensures whole { IfSome result (λ f. Fitting (Work indices) (shown_of f)) }
+    ensures whole { IfSome result (λ f. FittingIn (Work indices) (shown_of f)) }
 {
     let (states, rest) = numbered(value)?;
     let (targets, rest) = rest.split_at_checked(2 * (states as usize) * (indices as usize))?;
@@ -173,7 +173,7 @@ fn ring_field(value: &[u8]) -> Option<Field<'_>>
     ensures value { option_map shown_of result ≡ ring_of value.now }
     ensures short { IfSome result (λ f. Short (shown_of f)) }
     ensures sound { IfSome result (λ f. Says (shown_of f) 14 value.now) }
-    ensures whole { IfSome result (λ f. (k : ℕ) → Fitting (Work k) (shown_of f)) }
+    ensures whole { IfSome result (λ f. (k : ℕ) → FittingIn (Work k) (shown_of f)) }
 {
     let (states, rest) = numbered(value)?;
     let (back, rest) = numbered(rest)?;
@@ -186,13 +186,12 @@ fn ring_field(value: &[u8]) -> Option<Field<'_>>
 }
 
 // The field of a work by its tag; it may stand at any place.
-fn work_field(indices: u8, tag: u8, value: &[u8]) -> Result<Field<'_>, Flaw>
-    requires { length value.now ≤ 65535 }
-    ensures value { told_flaw result ≡ work_layout indices tag value.now }
+fn work_field(tag: u8, value: &[u8]) -> Result<Field<'_>, Flaw>
+    ensures value { told_flaw result ≡ work_layout tag value.now }
     ensures short { IfOk result (λ f. Short (shown_of f)) }
     ensures stands { IfOk result (λ f. nat_le 3 (tag_of (shown_of f)) ≡ true) }
     ensures sound { IfOk result (λ f. Says (shown_of f) tag value.now) }
-    ensures whole { IfOk result (λ f. Fitting (Work indices) (shown_of f)) }
+    ensures whole { IfOk result (λ f. Fitting (shown_of f)) }
 {
     match tag {
         3 => {
@@ -208,8 +207,6 @@ fn work_field(indices: u8, tag: u8, value: &[u8]) -> Result<Field<'_>, Flaw>
         6 => Ok(Field::Stay {
             line: line_field(value)?,
         }),
-        13 => table_plan_field(indices, value).ok_or(Flaw::WrongLength),
-        14 => ring_field(value).ok_or(Flaw::WrongLength),
         _ => Err(Flaw::UnknownTag),
     }
 }
@@ -221,15 +218,14 @@ pub(crate) fn field_of(
     tag: u8,
     value: &[u8],
 ) -> Result<Field<'_>, Flaw>
-    requires { length value.now ≤ 65535 }
     ensures value { told_flaw result ≡ placed source offset (layout source tag value.now) }
     ensures short { IfOk result (λ f. Short (shown_of f)) }
     ensures stands { IfOk result (λ f. stands source offset (shown_of f) ≡ true) }
     ensures sound { IfOk result (λ f. Says (shown_of f) tag value.now) }
-    ensures whole { IfOk result (λ f. Fitting source (shown_of f)) }
+    ensures whole { IfOk result (λ f. Fitting (shown_of f)) }
 {
     match source {
         Source::Book => book_field(offset, tag, value),
-        Source::Work { indices } => work_field(indices, tag, value),
+        Source::Work { .. } => work_field(tag, value),
     }
 }

@@ -46,10 +46,10 @@ impl<'a> Reader<'a> {
         ensures same { (self.new.bytes.now ≡ self.old.bytes.now) × (self.new.source ≡ self.old.source) }
         ensures moves { Moves self.old.source result (length self.old.bytes.now) self.old.place self.new.place }
         ensures short { Shows result Short }
-        ensures whole { Shows result (Fitting self.old.source) }
+        ensures whole { Shows result Fitting }
         ensures stands { Shows result (λ f. stands self.old.source self.old.place f ≡ true) }
         ensures sound { Shows result (λ f. ahead self.old ≡ bytes_of f ++ ahead self.new) }
-        ensures complete { (f : Shown) (rest : List ℕ) → ahead self.old ≡ bytes_of f ++ rest → Fitting self.old.source f → stands self.old.source self.old.place f ≡ true → told result self.new.place ≡ shows f (self.old.place + length (bytes_of f)) }
+        ensures complete { (f : Shown) (rest : List ℕ) → ahead self.old ≡ bytes_of f ++ rest → Fitting f → stands self.old.source self.old.place f ≡ true → told result self.new.place ≡ shows f (self.old.place + length (bytes_of f)) }
     {
         let Reader {
             bytes,

@@ -1,5 +1,6 @@
 -- What the fields of a book and of a work do. Assumes nothing.
 use Rattle.std.specs.Prelude.{ℕ, ◌+◌, List, [], ◌∷◌, Some, None, Option}
+use Rattle.std.specs.Option.{option_map}
 use Rattle.clauses.specs.declared.lines.Line.{Line}
 use Rattle.clauses.specs.Refusals.{first_of}
 use Rattle.fields.specs.declared.shapes.Source.TheVariants as source
@@ -61,6 +62,17 @@ book_of room (shown p f ∷ items) = elim (indices_of f) [ None ↦ stopped [] 4
 
 -- ---- the work
 
+-- the call of a work's field
+abbrev pub work_call : Shown → Option Call
+work_call (begin k) = None
+work_call (rule kind index left right) = None
+work_call (resolve a b l) = Some (call.resolve a b (record { 0 = l }))
+work_call (rewrite n) = Some (call.rewrite n)
+work_call (enter n) = Some (call.enter n)
+work_call (stay n) = Some (call.stay n)
+work_call (table_plan n targets truths moves) = None
+work_call (ring n back truths) = None
+
 -- what a field asks for: a call, or one on a plan that is refused by this number before it is judged
 pub data Request : Type 0 where
   asks : Call → Request
@@ -88,12 +100,12 @@ ring_request k n back truths = on_plan (first_of (ring_causes n k back (pairs_of
 
 -- what a work's field asks of an inspection with k indices
 abbrev pub request_of : ℕ → Shown → Option Request
-request_of k (begin n) = None
-request_of k (rule kind index left right) = None
-request_of k (resolve a b l) = Some (asks (call.resolve a b (record { 0 = l })))
-request_of k (rewrite n) = Some (asks (call.rewrite n))
-request_of k (enter n) = Some (asks (call.enter n))
-request_of k (stay n) = Some (asks (call.stay n))
+request_of k (begin n) = option_map asks (work_call (begin n))
+request_of k (rule kind index left right) = option_map asks (work_call (rule kind index left right))
+request_of k (resolve a b l) = option_map asks (work_call (resolve a b l))
+request_of k (rewrite n) = option_map asks (work_call (rewrite n))
+request_of k (enter n) = option_map asks (work_call (enter n))
+request_of k (stay n) = option_map asks (work_call (stay n))
 request_of k (table_plan n targets truths moves) = Some (table_request k n targets truths moves)
 request_of k (ring n back truths) = Some (ring_request k n back truths)
 

@@ -1,7 +1,6 @@
 use Rattle.std.proofs.Common.{◌≡◌, cond, get_or, drop, IfSome, Some, None, sym, ap, ◌∙◌, subst, rules}
 use Rattle.std.proofs.lemmas.List.{take_rest}
 use Rattle.std.specs.Option.{option_map}
-use Rattle.fields.specs.declared.shapes.Source.TheVariants.{Book}
 use Rattle.fields.specs.Shown.{shown_of, rule, Short, Fitting}
 use Rattle.fields.specs.Layouts.{counted}
 use Rattle.fields.proofs.Parts.{no_second, both}
@@ -18,7 +17,7 @@ returns-in_err-right c =
     record {
       value = ap (option_map shown_of) none ∙ no_second c.args.value.now (search rules) _ _ (first (goal.at.returns-in_err-right c).In_ok-left) c.in_err-right.ensures.value;
       short = subst (λ r. IfSome r (λ f. Short (shown_of f))) (sym none) tt;
-      whole = subst (λ r. IfSome r (λ f. Fitting Book (shown_of f))) (sym none) tt;
+      whole = subst (λ r. IfSome r (λ f. Fitting (shown_of f))) (sym none) tt;
     }
 
 pub returns-then-not-is_empty : goal.returns-then-not-is_empty

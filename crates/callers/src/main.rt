@@ -1,4 +1,6 @@
-// Plans filled and judged by a caller of its own, which the program's fields cannot show.
+// Plans filled and judged by a caller of its own.
+#![tactic(auto)]
+
 use clauses::{Line, Literal};
 use inspection::{Inspection, Opening};
 use judging::Judgement;
@@ -120,8 +122,8 @@ fn show_marks(rt: &HostRuntime) -> anyhow::Result<()> {
     )
 }
 
-pub(crate) fn show_plans(rt: &HostRuntime) -> anyhow::Result<()> {
-    show_sizes(rt)?;
-    show_tables(rt)?;
-    show_marks(rt)
+fn main(rt: HostRuntime) -> anyhow::Result<()> {
+    show_sizes(&rt)?;
+    show_tables(&rt)?;
+    show_marks(&rt)
 }
