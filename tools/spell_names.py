@@ -17,7 +17,16 @@ MEMBER = re.compile(r"^  (?:pub )?([a-z_][\w'-]*) :(?!:)")
 WORD = re.compile(r"[A-Za-z_][\w'-]*")
 
 # a lemma on the definition of the name that it would have
-APART = {"waits-by": "waits_by_lem"}
+APART = {
+    "closed-row": "row_closed",
+    "row-right": "row_right_holds",
+    "same-scope": "one_scope",
+    "same-wait": "one_wait",
+    "scope-under": "scope_under_lem",
+    "side-for": "side_fits",
+    "wait-literal": "literal_of_wait",
+    "waits-by": "waits_by_lem",
+}
 
 
 def spelled(name):
