@@ -1,6 +1,6 @@
 // What a sometime line waits for.
 ghost use Rattle.std.specs.Prelude.{◌≡◌};
-ghost use Rattle.calls.specs.Waits.{same_wait, wait_of};
+ghost use Rattle.calls.specs.Waits.{wait_of};
 
 use clauses::{Kind, Line, Literal, Scope};
 
@@ -23,12 +23,5 @@ impl Wait {
             [goal, ..] => Some(Wait { scope, goal: *goal }),
             [] => None,
         }
-    }
-
-    // Whether the pair of scope and goal is the same.
-    pub fn same(self, other: Wait) -> bool
-        ensures { result ≡ same_wait self other }
-    {
-        self.scope == other.scope && self.goal == other.goal
     }
 }

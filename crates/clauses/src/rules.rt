@@ -1,5 +1,5 @@
 // The line that a rule makes, and what may stand against it.
-ghost use Rattle.std.specs.Prelude.{◌≡◌, length, Some, None, MatchResult};
+ghost use Rattle.std.specs.Prelude.{◌≡◌, Some, None, MatchResult};
 ghost use Rattle.ordered.specs.Lists.{ascending};
 ghost use Rattle.clauses.specs.Literals.{literal_rank};
 ghost use Rattle.clauses.specs.Refusals.{number_of, first_of};

@@ -1,5 +1,5 @@
 -- The code's answers, with their numbers and values. Assumes nothing.
-use Rattle.std.specs.Prelude.{◌≡◌, ℕ, ◌<◌, true, false, List, length, Some, None, Ok, Err, Option, Result, slice_index_or}
+use Rattle.std.specs.Prelude.{◌≡◌, ℕ, ◌<◌, true, false, List, length, Some, None, Ok, Err, Option, Result, IfOk, slice_index_or}
 use Rattle.clauses.specs.declared.lines.Line.{Line}
 use Rattle.clauses.specs.declared.refusals.Refusal.{Refusal}
 use Rattle.clauses.specs.Kinds.{kind_under}
@@ -31,8 +31,11 @@ abbrev pub Lowest : List Line → Verdict → Type 0
 Lowest xs (Impossible n) = (n < length xs) × (refutes (slice_index_or xs n blank) ≡ true) × ((k : ℕ) → k < n → refutes (slice_index_or xs k blank) ≡ false)
 Lowest xs Undecided = (k : ℕ) → k < length xs → refutes (slice_index_or xs k blank) ≡ false
 
--- what a call that makes a line comes to before the line is stored: the first of its causes, or the line, which is lawful and of an
--- index below k, where it has one
-abbrev pub Makes : Result Line Refusal → List Cause → Option Line → ℕ → List Wait → Type 0
-Makes (Ok x) cs o k ws = (first_of cs ≡ None) × (Some x ≡ o) × (lawful_line ws x ≡ true) × (kind_under k x.kind ≡ true)
-Makes (Err e) cs o k ws = first_of cs ≡ Some (number_of e)
+-- what a call that makes a line comes to before the line is stored: the first of its causes, or the line, which is lawful
+abbrev pub Makes : Result Line Refusal → List Cause → Option Line → List Wait → Type 0
+Makes (Ok x) cs o ws = (first_of cs ≡ None) × (Some x ≡ o) × (lawful_line ws x ≡ true)
+Makes (Err e) cs o ws = first_of cs ≡ Some (number_of e)
+
+-- and the index of the line, where it has one, is below k
+abbrev pub MakesUnder : Result Line Refusal → List Cause → Option Line → ℕ → List Wait → Type 0
+MakesUnder r cs o k ws = Makes r cs o ws × IfOk r (λ x. kind_under k x.kind ≡ true)

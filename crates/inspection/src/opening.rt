@@ -1,5 +1,5 @@
 // How an inspection is opened: first the index count and the table are checked, then the table is lent.
-ghost use Rattle.std.specs.Prelude.{◌≡◌, ◌≤◌, min, length, Some, None, MatchResult};
+ghost use Rattle.std.specs.Prelude.{◌≡◌, min, length, Some, None, MatchResult};
 ghost use Rattle.clauses.specs.Refusals.{number_of, first_of};
 ghost use Rattle.calls.specs.Calls.{open_causes};
 ghost use Rattle.calls.specs.Models.{fresh};

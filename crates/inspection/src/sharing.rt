@@ -3,12 +3,19 @@ ghost use Rattle.std.specs.Prelude.{◌≡◌, true, false, [], Some, MatchResul
 ghost use Rattle.std.specs.Option.{option_map};
 ghost use Rattle.clauses.specs.Steps.{wait_literal};
 ghost use Rattle.clauses.specs.declared.refusals.Refusal.TheVariants.{NothingLeft};
-ghost use Rattle.calls.specs.Waits.{admitted, held, place_of, same_wait, waitless, wait_of};
+ghost use Rattle.calls.specs.Waits.{admitted, held, place_of, same_wait, waitless};
 ghost use Rattle.inspection.specs.Waits.{given_out};
 
 use crate::waits::Waits;
 use calls::Wait;
 use clauses::{Literal, Refusal, Scope};
+
+// Whether the pair of scope and goal is the same.
+fn same(one: Wait, other: Wait) -> bool
+    ensures { result ≡ same_wait one other }
+{
+    one.scope == other.scope && one.goal == other.goal
+}
 
 impl Waits {
     // No wait is given out yet.
@@ -28,7 +35,7 @@ impl Waits {
         ensures { result ≡ held (given_out self.now) wanted }
     {
         for i in 0..self.count {
-            if self.given[i].same(wanted) {
+            if same(self.given[i], wanted) {
                 return true;
             }
         }
@@ -41,7 +48,7 @@ impl Waits {
         ensures { Some result ≡ option_map wait_literal (place_of (given_out self.now) wanted) }
     {
         for i in 0..self.count {
-            if self.given[i].same(wanted) {
+            if same(self.given[i], wanted) {
                 return Literal(2048 + 2 * i as u16);
             }
         }

@@ -5,7 +5,7 @@ ghost use Rattle.clauses.specs.Refusals.{first_of, number_of};
 ghost use Rattle.clauses.specs.Steps.{proper, rewritten_line};
 ghost use Rattle.inspection.specs.Accepted.{ByCalculus, Entering, Resolving, Rewriting, Staying};
 ghost use Rattle.calls.specs.Calls.{Call, after, answer, entered_of, line_at, resolve_causes, resolved_of, rewrite_causes, stayed_of, wait_causes};
-ghost use Rattle.inspection.specs.Told.{Makes, told_line};
+ghost use Rattle.inspection.specs.Told.{MakesUnder, told_line};
 ghost use Rattle.calls.specs.Models.{overlay};
 ghost use Rattle.inspection.specs.Held.{model_of};
 
@@ -48,7 +48,7 @@ fn rewritten(line: &Line) -> Result<Line, Refusal>
 
 impl<'a> Inspection<'a> {
     fn resolving(&self, a: usize, b: usize, literal: Literal) -> Result<Line, Refusal>
-        ensures { Makes result (resolve_causes [] (line_at (model_of self.now).lines a) (line_at (model_of self.now).lines b) literal) (resolved_of (line_at (model_of self.now).lines a) (line_at (model_of self.now).lines b) literal) (model_of self.now).indices (model_of self.now).waits }
+        ensures { MakesUnder result (resolve_causes [] (line_at (model_of self.now).lines a) (line_at (model_of self.now).lines b) literal) (resolved_of (line_at (model_of self.now).lines a) (line_at (model_of self.now).lines b) literal) (model_of self.now).indices (model_of self.now).waits }
     {
         let Some(one) = self.line_at(a) else {
             return Err(Refusal::NotThere);
@@ -60,7 +60,7 @@ impl<'a> Inspection<'a> {
     }
 
     fn rewriting(&self, number: usize) -> Result<Line, Refusal>
-        ensures { Makes result (rewrite_causes (line_at (model_of self.now).lines number)) (option_map rewritten_line (line_at (model_of self.now).lines number)) (model_of self.now).indices (model_of self.now).waits }
+        ensures { MakesUnder result (rewrite_causes (line_at (model_of self.now).lines number)) (option_map rewritten_line (line_at (model_of self.now).lines number)) (model_of self.now).indices (model_of self.now).waits }
     {
         let Some(line) = self.line_at(number) else {
             return Err(Refusal::NotThere);
@@ -69,7 +69,7 @@ impl<'a> Inspection<'a> {
     }
 
     fn entering(&self, number: usize) -> Result<Line, Refusal>
-        ensures { Makes result (wait_causes (line_at (model_of self.now).lines number)) (entered_of (model_of self.now).waits (line_at (model_of self.now).lines number)) (model_of self.now).indices (model_of self.now).waits }
+        ensures { MakesUnder result (wait_causes (line_at (model_of self.now).lines number)) (entered_of (model_of self.now).waits (line_at (model_of self.now).lines number)) (model_of self.now).indices (model_of self.now).waits }
     {
         let Some(line) = self.line_at(number) else {
             return Err(Refusal::NotThere);
@@ -82,7 +82,7 @@ impl<'a> Inspection<'a> {
     }
 
     fn staying(&self, number: usize) -> Result<Line, Refusal>
-        ensures { Makes result (wait_causes (line_at (model_of self.now).lines number)) (stayed_of (model_of self.now).waits (line_at (model_of self.now).lines number)) (model_of self.now).indices (model_of self.now).waits }
+        ensures { MakesUnder result (wait_causes (line_at (model_of self.now).lines number)) (stayed_of (model_of self.now).waits (line_at (model_of self.now).lines number)) (model_of self.now).indices (model_of self.now).waits }
     {
         let Some(line) = self.line_at(number) else {
             return Err(Refusal::NotThere);

@@ -1,5 +1,5 @@
 // How a line is stored in the table.
-ghost use Rattle.std.specs.Prelude.{◌≡◌, ◌+◌, ◌<◌, true, false, [], ◌∷◌, ◌++◌, length, IfSome, Some, MatchResult, slice_set};
+ghost use Rattle.std.specs.Prelude.{◌≡◌, ◌+◌, ◌<◌, true, false, [], ◌∷◌, length, IfSome, Some, MatchResult, slice_set};
 ghost use Rattle.clauses.specs.declared.refusals.Refusal.TheVariants.{NothingLeft};
 ghost use Rattle.clauses.specs.Kinds.{kind_under};
 ghost use Rattle.clauses.specs.Refusals.{first_of};

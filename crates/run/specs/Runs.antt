@@ -113,7 +113,7 @@ request_of k (ring n back truths) = Some (ring_request k n back truths)
 abbrev pub after_work : Model → List Item → Model
 after_work m [] = m
 after_work m (flawed p c ∷ items) = after_work m items
-after_work m (shown p f ∷ items) = elim (request_of m.indices f) [ None ↦ after_work m items | Some q ↦ after_work (afterwards m q) items ]
+after_work m (shown p f ∷ items) = elim (work_call f) [ None ↦ after_work m items | Some c ↦ after_work (after m c) items ]
 
 -- the lines that a book and a work leave in the table
 abbrev pub made_by : List ℕ → Book → List Line

@@ -4,7 +4,9 @@ use Rattle.fields.specs.declared.shapes.Source.TheVariants as source
 use Rattle.fields.specs.declared.shapes.Source.{Source}
 use Rattle.fields.specs.declared.walk.Reader.{Reader}
 use Rattle.clauses.specs.declared.lines.Line.{Line}
-use Rattle.calls.specs.Calls.{Answer, answer, judged_as, verdict}
+use Rattle.clauses.specs.declared.refusals.Refusal.{Refusal}
+use Rattle.calls.specs.Calls.{Answer, Call, after, answer, judged_as, verdict}
+use Rattle.inspection.specs.Told.{told_line}
 use Rattle.calls.specs.Calls as call
 use Rattle.inspection.specs.declared.opening.Opening.{Opening}
 use Rattle.calls.specs.Models.{Model, fresh}
@@ -14,8 +16,8 @@ use Rattle.run.specs.declared.outcomes.Outcome.TheVariants as came
 use Rattle.run.specs.declared.faults.Refused.{Refused}
 use Rattle.run.specs.Faults.{refused_number}
 use Rattle.run.specs.Files.{items_from}
-use Rattle.run.specs.Runs.{Book, Request, after_work, afterwards, reply, taken, stopped, book_of, rules_from}
-use Rattle.run.specs.Text.{answer_text, no_text, verdict_text, work_text}
+use Rattle.run.specs.Runs.{Book, after_work, taken, stopped, book_of, rules_from}
+use Rattle.run.specs.Text.{line_text, no_text, verdict_text, work_text}
 
 -- the rules that a reader has before it, at most k of them, after n others
 abbrev pub ahead : ℕ → Reader → Model → ℕ → Book
@@ -65,26 +67,22 @@ abbrev pub outcome : Outcome → Answer
 outcome (came.Line n) = call.line n
 outcome (came.Judged j) = judged_as j
 
-abbrev pub told_outcome : Result Outcome Refused → Answer
-told_outcome (Ok o) = outcome o
-told_outcome (Err e) = call.refused (refused_number e)
-
--- from one reader and model to another: a field came to something, there was no field, or it is refused
-abbrev pub OneLine : Result (Option Outcome) Refused → Reader → Model → Reader → Model → Type 0
-OneLine (Ok (Some o)) r m r' m' = ((j i : ℕ) → lines_ahead (suc j) r m i ≡ answer_text i r.place (outcome o) ++ lines_ahead j r' m' (i + 1)) × ((j : ℕ) → left_ahead (suc j) r m ≡ left_ahead j r' m')
+-- from one reader and model to another: a line was made, there was no field, or it is refused
+abbrev pub OneLine : Result (Option ℕ) Refused → Reader → Model → Reader → Model → Type 0
+OneLine (Ok (Some n)) r m r' m' = ((j i : ℕ) → lines_ahead (suc j) r m i ≡ line_text i n ++ lines_ahead j r' m' (i + 1)) × ((j : ℕ) → left_ahead (suc j) r m ≡ left_ahead j r' m')
 OneLine (Ok None) r m r' m' = ((j i : ℕ) → lines_ahead (suc j) r m i ≡ verdict_text (answer m' verdict)) × ((j : ℕ) → left_ahead (suc j) r m ≡ m'.lines)
 OneLine (Err e) r m r' m' = ((j i : ℕ) → lines_ahead (suc j) r m i ≡ no_text i (refused_number e) r.place ++ lines_ahead j r' m' (i + 1)) × ((j : ℕ) → left_ahead (suc j) r m ≡ left_ahead j r' m')
 
 -- a field moves the place from p on to q, of so many bytes
-abbrev pub Onward : Result (Option Outcome) Refused → ℕ → ℕ → ℕ → Type 0
-Onward (Ok (Some o)) bytes p q = (p < q) × (q ≤ bytes)
+abbrev pub Onward : Result (Option ℕ) Refused → ℕ → ℕ → ℕ → Type 0
+Onward (Ok (Some line)) bytes p q = (p < q) × (q ≤ bytes)
 Onward (Ok None) bytes p q = Unit {0}
 Onward (Err e) bytes p q = (p < q) × (q ≤ bytes)
 
--- what was asked for was done, and left a model as it should
-abbrev pub Did : Option Request → Result Outcome Refused → Model → Model → Type 0
+-- a call was made, and left a model as it should
+abbrev pub Did : Option Call → Result ℕ Refusal → Model → Model → Type 0
 Did None r m m' = ⊥
-Did (Some q) r m m' = (told_outcome r ≡ reply m q) × (m' ≡ afterwards m q)
+Did (Some c) r m m' = (told_line r ≡ answer m c) × (m' ≡ after m c)
 
 -- the line of field i was written, or there is no field more and nothing was written
 abbrev pub Written : Bool → ℕ → List ℕ → List ℕ → Reader → Model → Reader → Model → Type 0

@@ -1,11 +1,11 @@
 -- The report, byte by byte. Assumes nothing.
 use Rattle.std.specs.Prelude.{ℕ, ◌+◌, cond, List, [], ◌∷◌, ◌++◌, length, Some, None, codes, decimal, Option, nat_le}
 use Rattle.fields.specs.declared.shapes.Source.TheVariants as source
-use Rattle.calls.specs.Calls.{Answer, line, impossible, undecided, kept, broken, opens, closes, drops, unmet, told, refused, answer, verdict}
+use Rattle.calls.specs.Calls.{Answer, line, impossible, undecided, kept, broken, opens, closes, drops, unmet, told, refused, after, answer, verdict}
 use Rattle.clauses.specs.declared.lines.Line.{Line}
 use Rattle.calls.specs.Models.{Model, overlay}
 use Rattle.run.specs.Files.{Item, shown, flawed, items_of}
-use Rattle.run.specs.Runs.{Book, taken, stopped, book_of, made_by, request_of, reply, afterwards}
+use Rattle.run.specs.Runs.{Book, taken, stopped, book_of, made_by, work_call}
 
 abbrev pub book_text : ℕ → ℕ → List ℕ
 book_text k rules = codes "book " ++ (decimal k ++ (codes " " ++ (decimal rules ++ codes "\n")))
@@ -61,7 +61,7 @@ verdict_text (refused n) = []
 abbrev pub work_text : Model → ℕ → List Item → List ℕ
 work_text m i [] = verdict_text (answer m verdict)
 work_text m i (flawed p c ∷ items) = no_text i c p ++ work_text m (i + 1) items
-work_text m i (shown p f ∷ items) = elim (request_of m.indices f) [ None ↦ work_text m (i + 1) items | Some q ↦ answer_text i p (reply m q) ++ work_text (afterwards m q) (i + 1) items ]
+work_text m i (shown p f ∷ items) = elim (work_call f) [ None ↦ work_text m (i + 1) items | Some c ↦ answer_text i p (answer m c) ++ work_text (after m c) (i + 1) items ]
 
 -- a work after its book
 abbrev pub run_text : List ℕ → Book → List ℕ

@@ -48,7 +48,7 @@ pub(crate) fn write_refused(text: &mut String, field: usize, fault: Fault) -> Re
 }
 
 // The field of this number made a line.
-fn write_line(text: &mut String, field: usize, line: usize) -> Result<(), AllocError>
+pub(crate) fn write_line(text: &mut String, field: usize, line: usize) -> Result<(), AllocError>
     ensures { OnOk result (string_bytes text.new ≡ string_bytes text.old ++ line_text field line) }
 {
     writeln!(text, "{field} line {line}")

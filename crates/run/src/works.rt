@@ -1,61 +1,46 @@
 // How a work is gone through.
 ghost use Rattle.std.specs.Prelude.{◌≡◌, ◌≤◌, true, ◌++◌, length, is_some, IfOk, string_bytes, OnOk};
-ghost use Rattle.fields.specs.Shown.{Short, shown_of};
+ghost use Rattle.fields.specs.Shown.{shown_of};
 ghost use Rattle.fields.specs.declared.shapes.Source.TheVariants as source;
 ghost use Rattle.calls.specs.Models.{overlay};
 ghost use Rattle.inspection.specs.Held.{model_of};
 ghost use Rattle.run.specs.Files.{items_of};
-ghost use Rattle.run.specs.Runs.{after_work, request_of};
+ghost use Rattle.run.specs.Runs.{after_work, work_call};
 ghost use Rattle.run.specs.Steps.{Did, IsWork, OneLine, Onward, Written};
 ghost use Rattle.run.specs.Text.{work_text};
 
 use crate::faults::{Fault, File, Refused};
-use crate::outcomes::Outcome;
-use crate::plan_fields::{judge_ring, judge_table};
-use crate::text::{write_outcome, write_refused, write_verdict};
-use clauses::Literal;
+use crate::text::{write_line, write_refused, write_verdict};
+use clauses::{Literal, Refusal};
 use fields::{Field, Reader, Source};
 use inspection::Inspection;
 use std::alloc::AllocError;
 
-// Does what a field of a work asks for.
-fn perform(inspection: &mut Inspection, field: Field) -> Result<Outcome, Refused>
-    requires some { is_some (request_of (model_of inspection.old).indices (shown_of field)) ≡ true }
-    requires short { Short (shown_of field) }
-    ensures did { Did (request_of (model_of inspection.old).indices (shown_of field.entry)) result (model_of inspection.old) (model_of inspection.new) }
+// Makes the call of a field of a work.
+fn perform(inspection: &mut Inspection, field: Field) -> Result<usize, Refusal>
+    requires { is_some (work_call (shown_of field)) ≡ true }
+    ensures did { Did (work_call (shown_of field.entry)) result (model_of inspection.old) (model_of inspection.new) }
     ensures table { inspection.new.lines.now ≡ overlay (model_of inspection.new).lines inspection.old.lines.now }
     ensures lent { inspection.new.lines.ghost_name ≡ inspection.old.lines.ghost_name }
 {
     match field {
-        Field::Resolve { a, b, literal } => Ok(Outcome::Line(inspection.resolve(
+        Field::Resolve { a, b, literal } => inspection.resolve(
             a as usize,
             b as usize,
             Literal(literal),
-        )?)),
-        Field::Rewrite { line } => Ok(Outcome::Line(inspection.rewrite(line as usize)?)),
-        Field::Enter { line } => Ok(Outcome::Line(inspection.enter(line as usize)?)),
-        Field::Stay { line } => Ok(Outcome::Line(inspection.stay(line as usize)?)),
-        Field::TablePlan {
-            states,
-            targets,
-            truths,
-            moves,
-        } => Ok(Outcome::Judged(judge_table(inspection, states, targets, truths, moves)?)),
-        Field::Ring {
-            states,
-            back,
-            truths,
-        } => Ok(Outcome::Judged(judge_ring(inspection, states, back, truths)?)),
+        ),
+        Field::Rewrite { line } => inspection.rewrite(line as usize),
+        Field::Enter { line } => inspection.enter(line as usize),
+        Field::Stay { line } => inspection.stay(line as usize),
+        Field::TablePlan { .. } => unreachable(),
+        Field::Ring { .. } => unreachable(),
         Field::Begin { .. } => unreachable(),
         Field::Rule { .. } => unreachable(),
     }
 }
 
-// Does what the next field of the work asks for, and answers what it came to; none at the end.
-fn next_outcome(
-    reader: &mut Reader,
-    inspection: &mut Inspection,
-) -> Result<Option<Outcome>, Refused>
+// Makes the call of the next field of the work, and answers the line that it made; none at the end.
+fn next_line(reader: &mut Reader, inspection: &mut Inspection) -> Result<Option<usize>, Refused>
     requires { IsWork reader.old.source }
     ensures same { (reader.new.bytes.now ≡ reader.old.bytes.now) × (reader.new.source ≡ reader.old.source) }
     ensures moves { Onward result (length reader.old.bytes.now) reader.old.place reader.new.place }
@@ -67,8 +52,8 @@ fn next_outcome(
     let Some(field) = reader.next_field()? else {
         return Ok(None);
     };
-    let came = perform(inspection, field)?;
-    Ok(Some(came))
+    let line = perform(inspection, field)?;
+    Ok(Some(line))
 }
 
 // Writes a line for the next field of the work; false where there is none.
@@ -86,7 +71,7 @@ fn write_next(
     ensures step { IfOk result (λ more. Written more number (string_bytes text.old) (string_bytes text.new) reader.old (model_of inspection.old) reader.new (model_of inspection.new)) }
 {
     let offset = reader.place();
-    let found = match next_outcome(reader, inspection) {
+    let found = match next_line(reader, inspection) {
         Ok(found) => found,
         Err(refused) => {
             write_refused(
@@ -101,10 +86,10 @@ fn write_next(
             return Ok(true);
         }
     };
-    let Some(came) = found else {
+    let Some(line) = found else {
         return Ok(false);
     };
-    write_outcome(text, number, came)?;
+    write_line(text, number, line)?;
     Ok(true)
 }
 

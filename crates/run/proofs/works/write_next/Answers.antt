@@ -1,17 +1,17 @@
 use Rattle.std.proofs.Common.{suc, ◌+◌, ◌++◌, length, Ok, string_bytes, ap, ◌∙◌, subst}
 use Rattle.inspection.specs.Held.{model_of}
 use Rattle.run.specs.Faults.{refused_number}
-use Rattle.run.specs.Steps.{OneLine, Onward, lines_ahead, outcome}
-use Rattle.run.specs.Text.{answer_text, no_text}
+use Rattle.run.specs.Steps.{OneLine, Onward, lines_ahead}
+use Rattle.run.specs.Text.{line_text, no_text}
 use Rattle.run.proofs.Going.{wrote_line}
 use Rattle.run.proofs.works.write_next.Goals as goal
 
 pub returns-in-Err : goal.returns-in-Err
 returns-in-Err c =
     let r = c.args.reader.now in
-    let r' = c.next_outcome.new.reader in
+    let r' = c.next_line.new.reader in
     let m = model_of c.args.inspection.now in
-    let m' = model_of c.next_outcome.new.inspection in
+    let m' = model_of c.next_line.new.inspection in
     let n = c.args.number in
     let next = c.in-Err.ensures in
     let before = string_bytes c.args.text.now in
@@ -27,9 +27,9 @@ returns-in-Err c =
 pub returns : goal.returns
 returns c =
     let r = c.args.reader.now in
-    let r' = c.next_outcome.new.reader in
+    let r' = c.next_line.new.reader in
     let m = model_of c.args.inspection.now in
-    let m' = model_of c.next_outcome.new.inspection in
+    let m' = model_of c.next_line.new.inspection in
     let n = c.args.number in
     let next = c.in-Ok.ensures in
     let some = c.in-Some.is in
@@ -40,5 +40,5 @@ returns c =
       grows = next.grows;
       table = next.table;
       lent = next.lent;
-      step = (on, λ j. wrote_line (string_bytes c.args.text.now) (string_bytes c.write_outcome.new.text) (answer_text n r.place (outcome c.in-Some.came)) (lines_ahead j r' m' (n + 1)) (lines_ahead (suc j) r m n) (c.in_ok-write_outcome.ensures r.place) (step.0 j n), step.1);
+      step = (on, λ j. wrote_line (string_bytes c.args.text.now) (string_bytes c.write_line.new.text) (line_text n c.in-Some.line) (lines_ahead j r' m' (n + 1)) (lines_ahead (suc j) r m n) c.in_ok-write_line.ensures (step.0 j n), step.1);
     }

@@ -16,7 +16,7 @@ returns-in_err-line c =
     let s = c.args.self.now in
     let m = model_of s in
     let p = err_from_is_err_and c.from_residual.result c.from_residual.ensures.1 in
-    let out = not_made m (rewrite c.args.number) (rewrite_causes (line_at m.lines c.args.number)) (option_map rewritten_line (line_at m.lines c.args.number)) refl _ c.in_err-line.ensures in
+    let out = not_made m (rewrite c.args.number) (rewrite_causes (line_at m.lines c.args.number)) (option_map rewritten_line (line_at m.lines c.args.number)) refl _ c.in_err-line.ensures.0 in
     let told = ap told_line p.1 ∙ ap (λ e. refused (number_of e)) p.2 ∙ sym out.0 in
     record {
       answer = told;
@@ -27,12 +27,12 @@ returns-in_err-line c =
     }
 
 pub store-requires : goal.store-requires
-store-requires c = record { lawful = c.in_ok-line.ensures.2; indexed = c.in_ok-line.ensures.3 }
+store-requires c = record { lawful = c.in_ok-line.ensures.0.2; indexed = c.in_ok-line.ensures.1 }
 
 pub returns : goal.returns
 returns c =
     let m = model_of c.args.self.now in
-    let made = c.in_ok-line.ensures in
+    let made = c.in_ok-line.ensures.0 in
     let stored = c.store.ensures in
     let told = stored.answer ∙ made_answer m (rewrite c.args.number) (rewrite_causes (line_at m.lines c.args.number)) (option_map rewritten_line (line_at m.lines c.args.number)) refl refl made.0 in
     let left = stored.after ∙ made_after m (rewrite c.args.number) (rewrite_causes (line_at m.lines c.args.number)) (option_map rewritten_line (line_at m.lines c.args.number)) refl c.in_ok-line.line refl made.0 made.1 in

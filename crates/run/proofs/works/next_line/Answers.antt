@@ -3,15 +3,14 @@ use Rattle.std.proofs.lemmas.Result.{err_from_is_err_and}
 use Rattle.fields.specs.declared.shapes.Field.{Field}
 use Rattle.fields.specs.Layouts.{stands}
 use Rattle.fields.specs.Parse.{Shows, told}
-use Rattle.fields.specs.Shown.{Short, shown_of}
+use Rattle.fields.specs.Shown.{Fitting, shown_of}
 use Rattle.fields.specs.Walk.{Moves, parsed}
 use Rattle.inspection.specs.Held.{model_of}
 use Rattle.inspection.proofs.Overlays.{overlay_same}
-use Rattle.run.specs.declared.outcomes.Outcome.TheVariants.{Line}
 use Rattle.run.specs.Steps.{OneLine, Onward}
-use Rattle.run.proofs.Working.{did_grow, field_refused, field_taken, is_request, none_left, onward_err, reader_refused}
-use Rattle.run.proofs.works.next_outcome.Goals as goal
-use Rattle.run.proofs.works.next_outcome.Goals.{In-Some}
+use Rattle.run.proofs.Working.{call_grows, field_refused, field_taken, is_call, none_left, onward_err, reader_refused}
+use Rattle.run.proofs.works.next_line.Goals as goal
+use Rattle.run.proofs.works.next_line.Goals.{In-Some}
 
 module _ (c : In-Some) where
   -- what stands there, and that it may
@@ -21,14 +20,14 @@ module _ (c : In-Some) where
   may : stands c.args.reader.now.source c.args.reader.now.place (shown_of c.in-Some.field) ≡ true
   may = subst (λ (o : Option Field). Shows (Ok o) (λ f. stands c.args.reader.now.source c.args.reader.now.place f ≡ true)) c.in-Some.is c.in_ok-field.ensures.stands
 
-  short : Short (shown_of c.in-Some.field)
-  short = subst (λ (o : Option Field). Shows (Ok o) Short) c.in-Some.is c.in_ok-field.ensures.short
+  fit : Fitting (shown_of c.in-Some.field)
+  fit = subst (λ (o : Option Field). Shows (Ok o) Fitting) c.in-Some.is c.in_ok-field.ensures.whole
 
-  on : Onward (Ok (Some (Line 0))) (length c.args.reader.now.bytes.now) c.args.reader.now.place c.next_field.new.self.place
+  on : Onward (Ok (Some 0)) (length c.args.reader.now.bytes.now) c.args.reader.now.place c.next_field.new.self.place
   on = subst (λ (o : Option Field). Moves c.args.reader.now.source (Ok o) (length c.args.reader.now.bytes.now) c.args.reader.now.place c.next_field.new.self.place) c.in-Some.is c.in_ok-field.ensures.moves
 
 pub perform-requires : goal.perform-requires
-perform-requires c = record { some = is_request (model_of c.args.inspection.now).indices c.args.reader.now.source c.args.reader.now.place (shown_of c.in-Some.field) c.requires (may (goal.at.perform-requires c).In-Some); short = short (goal.at.perform-requires c).In-Some }
+perform-requires c = is_call c.args.reader.now.source c.args.reader.now.place (shown_of c.in-Some.field) c.requires (fit (goal.at.perform-requires c).In-Some) (may (goal.at.perform-requires c).In-Some)
 
 pub returns-in_err-field : goal.returns-in_err-field
 returns-in_err-field c =
@@ -63,21 +62,21 @@ returns-in_default c =
       step = none_left r c.next_field.new.self (model_of s) over;
     }
 
-pub returns-in_err-came : goal.returns-in_err-came
-returns-in_err-came c =
-    let at = (goal.at.returns-in_err-came c).In-Some in
+pub returns-in_err-line : goal.returns-in_err-line
+returns-in_err-line c =
+    let at = (goal.at.returns-in_err-line c).In-Some in
     let m = model_of c.args.inspection.now in
     let m' = model_of c.perform.new.inspection in
     let r = c.args.reader.now in
     let r' = c.next_field.new.self in
-    let p = err_from_is_err_and c.from_residual-in_err-came.result c.from_residual-in_err-came.ensures.1 in
+    let p = err_from_is_err_and c.from_residual-in_err-line.result c.from_residual-in_err-line.ensures.1 in
     let e = p.1 ∙ ap Err p.2 in
     let same = c.next_field.ensures.same in
-    let done = c.in_err-came.ensures in
+    let done = c.in_err-line.ensures in
     record {
       same = (same.0, same.1);
       moves = subst (λ x. Onward x (length r.bytes.now) r.place r'.place) (sym e) (on at);
-      grows = did_grow _ _ m m' done.did;
+      grows = call_grows _ _ m m' done.did;
       table = done.table;
       lent = done.lent;
       step = subst (λ x. OneLine x r m r' m') (sym e) (field_refused r r' m m' (shown_of c.in-Some.field) _ (shown at) same.0 same.1 done.did);
@@ -91,11 +90,11 @@ returns c =
     let r = c.args.reader.now in
     let r' = c.next_field.new.self in
     let same = c.next_field.ensures.same in
-    let done = c.in_ok-came.ensures in
+    let done = c.in_ok-line.ensures in
     record {
       same = (same.0, same.1);
       moves = on at;
-      grows = did_grow _ _ m m' done.did;
+      grows = call_grows _ _ m m' done.did;
       table = done.table;
       lent = done.lent;
       step = field_taken r r' m m' (shown_of c.in-Some.field) _ (shown at) same.0 same.1 done.did;
