@@ -3,6 +3,7 @@
 use Rattle.std.proofs.Common.{◌≡◌, ℕ, zero, suc, ◌+◌, ◌-◌, ◌*◌, ◌/◌, ◌%◌, ◌≤◌, Bool, true, false, cond, not, ◌&&◌, ◌||◌, eqb, ltb, leb, List, [], ◌∷◌, ◌++◌, Some, None, Option, sym, refl, ap, ◌∙◌, arith}
 use Rattle.std.specs.Option.{option_map}
 use Rattle.std.proofs.lemmas.Bool.{false≢true, eqb-true, leb-true, lt-ltb, le-ltb, eq-eqb, and_parts, cond-true, cond-false}
+use Rattle.std.proofs.lemmas.Option.{none-some, same_Some}
 use Rattle.clauses.specs.declared.kinds.Scope.{Scope}
 use Rattle.clauses.specs.declared.kinds.Scope.TheVariants.{All, Index}
 use Rattle.clauses.specs.declared.literals.Literal.{Literal}
@@ -14,7 +15,6 @@ use Rattle.truth.specs.Truth.{literal_at, left_at, right_at}
 use Rattle.truth.specs.Deciding.{sooner}
 use Rattle.calls.specs.declared.waits.Wait.{Wait}
 use Rattle.calls.specs.Waits.{place_of, same_scope, same_wait}
-use Rattle.calls.proofs.Joints.{none_some, some_same}
 
 -- the goal of a wait is met sooner or later
 abbrev pub comes : System → Wait → ℕ → Bool
@@ -81,15 +81,15 @@ module _ (sys : System) (ws : List Wait) (s : ℕ) where
 
 -- the wait that a front of the waits has at a place
 place_waits : (sys : System) (s : ℕ) (front more : List Wait) (w : Wait) (n : ℕ) → place_of front w ≡ Some n → waits_at sys (front ++ more) n s ≡ waits sys w s
-place_waits sys s [] more w n e = none_some e
+place_waits sys s [] more w n e = absurd (none-some _ e)
 place_waits sys s (v ∷ vs) more w n e = by-test (same_wait v w) refl (place_of vs w) refl e (place_waits sys s vs more w)
   where
     by-test : (b : Bool) → same_wait v w ≡ b → (o : Option ℕ) → place_of vs w ≡ o → cond b (Some 0) (option_map suc o) ≡ Some n → ((k : ℕ) → place_of vs w ≡ Some k → waits_at sys (vs ++ more) k s ≡ waits sys w s) → waits_at sys (v ∷ (vs ++ more)) n s ≡ waits sys w s
     by-test true same o is here rest =
-        ap (λ k. waits_at sys (v ∷ (vs ++ more)) k s) (sym (some_same here)) ∙ ap (λ u. waits sys u s) (one_wait v w same)
-    by-test false same None is here rest = none_some here
+        ap (λ k. waits_at sys (v ∷ (vs ++ more)) k s) (sym (same_Some _ _ here)) ∙ ap (λ u. waits sys u s) (one_wait v w same)
+    by-test false same None is here rest = absurd (none-some _ here)
     by-test false same (Some k) is here rest =
-        ap (λ j. waits_at sys (v ∷ (vs ++ more)) j s) (sym (some_same here)) ∙ rest k is
+        ap (λ j. waits_at sys (v ∷ (vs ++ more)) j s) (sym (same_Some _ _ here)) ∙ rest k is
 
 -- the literal of a wait that was given out by then
 pub given_literal : (sys : System) (ws : List Wait) (s : ℕ) (front more : List Wait) (w : Wait) (n : ℕ) → ws ≡ front ++ more → place_of front w ≡ Some n → literal_at (extended sys ws) s (wait_literal n) ≡ waits sys w s

@@ -3,6 +3,7 @@ use Rattle.std.proofs.Common.{◌≡◌, ℕ, zero, suc, true, not, eqb, ltb, Li
 use Rattle.std.specs.List.{AllByRecursion as All}
 use Rattle.std.proofs.ByRecursion.{All-get_or, All-push}
 use Rattle.std.proofs.lemmas.Bool.{eqb-true, ltb-true, not-false, or_parts}
+use Rattle.std.proofs.lemmas.Option.{none-some, same_Some}
 use Rattle.clauses.specs.declared.kinds.Kind.{Kind}
 use Rattle.clauses.specs.declared.kinds.Kind.TheVariants.{Start, Global, Step, Sometime}
 use Rattle.clauses.specs.declared.kinds.Scope.{Scope}
@@ -25,20 +26,20 @@ use Rattle.calls.specs.Law.{after_all}
 use Rattle.calls.specs.Loops.{add_row, at_loop, loop_at, opening, standing_as, supposed}
 use Rattle.calls.specs.Models.{Loop, Model, closed, dropped}
 use Rattle.calls.specs.Waits.{wait_for, wait_of}
-use Rattle.calls.proofs.Joints.{Joint, start_start, start_global, global_start, global_global, global_step, step_global, step_step, JointScope, any_with, with_any, with_itself, none_some, some_same}
+use Rattle.calls.proofs.Joints.{Joint, start_start, start_global, global_start, global_global, global_step, step_global, step_step, JointScope, any_with, with_any, with_itself}
 use Rattle.calls.proofs.Keeping.{all_none}
 use Rattle.calls.proofs.Stepping.{Makes, resolved, rewritten, entered, stayed, met_now, met_later, Steps, nothing, rules, makes, opens, supposes, closes, drops, call_steps}
 
 -- ---- what holds of every line and of every loop
 
 pub line_all : (P : Line → Type 0) (xs : List Line) (n : ℕ) (x : Line) → All P xs → line_at xs n ≡ Some x → P x
-line_all P [] n x all at = none_some at
-line_all P (y ∷ ys) zero x all at = subst P (some_same at) all.0
+line_all P [] n x all at = absurd (none-some _ at)
+line_all P (y ∷ ys) zero x all at = subst P (same_Some _ _ at) all.0
 line_all P (y ∷ ys) (suc n) x all at = line_all P ys n x all.1 at
 
 pub loop_all : (P : Loop → Type 0) (xs : List Loop) (n : ℕ) (x : Loop) → All P xs → loop_at xs n ≡ Some x → P x
-loop_all P [] n x all at = none_some at
-loop_all P (y ∷ ys) zero x all at = subst P (some_same at) all.0
+loop_all P [] n x all at = absurd (none-some _ at)
+loop_all P (y ∷ ys) zero x all at = subst P (same_Some _ _ at) all.0
 loop_all P (y ∷ ys) (suc n) x all at = loop_all P ys n x all.1 at
 
 pub all_at_loop : (P : Loop → Type 0) (n : ℕ) (f : Loop → Loop) → ((x : Loop) → P x → P (f x)) → (xs : List Loop) → All P xs → All P (at_loop n f xs)
@@ -78,11 +79,11 @@ joint_under k (step_step joint) h j = joint_scope_under k joint h j
 
 -- what a line waits for has the line's index
 wait_under : (k : ℕ) (kind : Kind) (right : List Literal) (w : Wait) → kind_under k kind ≡ true → wait_for kind right ≡ Some w → scope_under k w.scope ≡ true
-wait_under k Start right w h e = none_some e
-wait_under k Global right w h e = none_some e
-wait_under k (Step s) right w h e = none_some e
-wait_under k (Sometime s) [] w h e = none_some e
-wait_under k (Sometime s) (g ∷ gs) w h e = ap (λ (v : Wait). scope_under k v.scope) (sym (some_same e)) ∙ h
+wait_under k Start right w h e = absurd (none-some _ e)
+wait_under k Global right w h e = absurd (none-some _ e)
+wait_under k (Step s) right w h e = absurd (none-some _ e)
+wait_under k (Sometime s) [] w h e = absurd (none-some _ e)
+wait_under k (Sometime s) (g ∷ gs) w h e = ap (λ (v : Wait). scope_under k v.scope) (sym (same_Some _ _ e)) ∙ h
 
 pub line_wait_under : (m : Model) (n : ℕ) (x : Line) (w : Wait) → Fit m → line_at m.lines n ≡ Some x → wait_of x ≡ Some w → scope_under m.indices w.scope ≡ true
 line_wait_under m n x w fit at is = wait_under m.indices x.kind (literals x.right) w (line_all (LineUnder m.indices) m.lines n x fit.lines at) is

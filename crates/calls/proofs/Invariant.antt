@@ -4,6 +4,7 @@ use Rattle.std.proofs.Common.{◌≡◌, ℕ, zero, suc, ◌+◌, ◌≤◌, Boo
 use Rattle.std.specs.List.{AllByRecursion as All}
 use Rattle.std.proofs.ByRecursion.{All-push, All-weaker}
 use Rattle.std.proofs.lemmas.Bool.{both_ways, false≢true, true≢false, or_cases, or_left, or_parts, or_right}
+use Rattle.std.proofs.lemmas.Option.{none-some, same_Some}
 use Rattle.clauses.specs.declared.kinds.Kind.{Kind}
 use Rattle.clauses.specs.declared.kinds.Kind.TheVariants.{Start, Global, Step, Sometime}
 use Rattle.clauses.specs.declared.kinds.Scope.{Scope}
@@ -26,7 +27,7 @@ use Rattle.calls.specs.Waits.{and_then, place_of}
 use Rattle.calls.proofs.Concluding.{entered_true, resolved_true, rewritten_true, stayed_true}
 use Rattle.calls.proofs.Endless.{later_true, now_true}
 use Rattle.calls.proofs.Fitting.{Fit, all_at_loop, all_front, kind_fits, line_all, loop_all, scope_speaks}
-use Rattle.calls.proofs.Joints.{Joint, start_start, start_global, global_start, global_global, global_step, step_global, step_step, none_some, some_none, some_same}
+use Rattle.calls.proofs.Joints.{Joint, start_start, start_global, global_start, global_global, global_step, step_global, step_step}
 use Rattle.calls.proofs.Stepping.{ClosedAt, Makes, resolved, rewritten, entered, stayed, met_now, met_later, Steps, nothing, rules, makes, opens, supposes, closes, drops}
 use Rattle.calls.proofs.Supposing.{ComesLine, ComesOf, Premise, RowsHold, TrueLine, kept-comes, kept-true, premise_changed, premise_opened, true_made, true_weaker}
 
@@ -52,22 +53,22 @@ all_both P Q [] all more = tt
 all_both P Q (x ∷ xs) all more = ((all.0, more.0), all_both P Q xs all.1 more.1)
 
 row_all : (P : List Literal → Type 0) (ps : List (List Literal)) (n : ℕ) (p : List Literal) → All P ps → row_at ps n ≡ Some p → P p
-row_all P [] n p all at = none_some at
-row_all P (q ∷ qs) zero p all at = subst P (some_same at) all.0
+row_all P [] n p all at = absurd (none-some _ at)
+row_all P (q ∷ qs) zero p all at = subst P (same_Some _ _ at) all.0
 row_all P (q ∷ qs) (suc n) p all at = row_all P qs n p all.1 at
 
 -- ---- loops by number
 
 changed_cases : (n : ℕ) (f : Loop → Loop) (loops : List Loop) (k : ℕ) (y : Loop) → loop_at (at_loop n f loops) k ≡ Some y → (loop_at loops k ≡ Some y) ⊎ ((k ≡ n) × (x : Loop) × (loop_at loops k ≡ Some x) × (f x ≡ y))
 changed_cases n f [] k y h = inl h
-changed_cases zero f (x ∷ xs) zero y h = inr (refl, x, refl, some_same h)
+changed_cases zero f (x ∷ xs) zero y h = inr (refl, x, refl, same_Some _ _ h)
 changed_cases zero f (x ∷ xs) (suc k) y h = inl h
 changed_cases (suc n) f (x ∷ xs) zero y h = inl h
 changed_cases (suc n) f (x ∷ xs) (suc k) y h = ⊎_elim inl (λ r. inr (ap suc r.0, r.1, r.2, r.3)) (changed_cases n f xs k y h)
 
 changed_here : (n : ℕ) (f : Loop → Loop) (loops : List Loop) (z : Loop) → loop_at loops n ≡ Some z → loop_at (at_loop n f loops) n ≡ Some (f z)
-changed_here n f [] z h = none_some h
-changed_here zero f (x ∷ xs) z h = ap (λ y. Some (f y)) (some_same h)
+changed_here n f [] z h = absurd (none-some _ h)
+changed_here zero f (x ∷ xs) z h = ap (λ y. Some (f y)) (same_Some _ _ h)
 changed_here (suc n) f (x ∷ xs) z h = changed_here n f xs z h
 
 -- a change opens no loop
@@ -80,7 +81,7 @@ open_before f keep (suc n) (x ∷ xs) (suc k) h = open_before f keep n xs k h
 
 open_standing : (loops : List Loop) (n : ℕ) (x : Loop) → open_here loops n ≡ true → loop_at loops n ≡ Some x → is_open x.standing ≡ true
 open_standing [] n x h at = absurd (false≢true h)
-open_standing (y ∷ ys) zero x h at = ap (λ (z : Loop). is_open z.standing) (sym (some_same at)) ∙ h
+open_standing (y ∷ ys) zero x h at = ap (λ (z : Loop). is_open z.standing) (sym (same_Some _ _ at)) ∙ h
 open_standing (y ∷ ys) (suc n) x h at = open_standing ys n x h at
 
 not_open_closed : (s : Standing) → is_open s ≡ true → is_closed s ≡ true → ⊥
@@ -107,7 +108,7 @@ open_last (x ∷ xs) z zero shut h = absurd (both_ways (is_open x.standing) (or_
 open_last (x ∷ xs) z (suc n) shut h = ap suc (open_last xs z n (or_parts (is_open x.standing) (some_open xs) shut).1 h)
 
 pushed_cases : (loops : List Loop) (z : Loop) (k : ℕ) (y : Loop) → loop_at (loops ++ z ∷ []) k ≡ Some y → (loop_at loops k ≡ Some y) ⊎ (z ≡ y)
-pushed_cases [] z zero y h = inr (some_same h)
+pushed_cases [] z zero y h = inr (same_Some _ _ h)
 pushed_cases [] z (suc k) y h = inl h
 pushed_cases (x ∷ xs) z zero y h = inl h
 pushed_cases (x ∷ xs) z (suc k) y h = pushed_cases xs z k y h
@@ -128,7 +129,7 @@ none_unmet i s n lines (p ∷ ps) h = by-test (met s n p lines) refl h (none_unm
   where
     by-test : (b : Bool) → met s n p lines ≡ b → cond b (unmet_from (i + 1) s n lines ps) (Some i) ≡ None → (unmet_from (i + 1) s n lines ps ≡ None → All (λ q. met s n q lines ≡ true) ps) → All (λ q. met s n q lines ≡ true) (p ∷ ps)
     by-test true is e rest = (is, rest e)
-    by-test false is e rest = some_none e
+    by-test false is e rest = absurd (none-some _ (sym e))
 
 all_rows_met : (m : Model) (n : ℕ) (z : Loop) → unmet_row m n ≡ None → loop_at m.loops n ≡ Some z → All (λ p. met z.scope n p m.lines ≡ true) z.rows
 all_rows_met m n z h at =
@@ -217,9 +218,9 @@ joint_plain (step_global r) = tt
 joint_plain (step_step joint) = tt
 
 plain_comes : (sys : System) (ws : List Wait) (kind : Kind) (left right : List Literal) → Plain kind → ComesOf sys ws kind left right
-plain_comes sys ws Start left right plain w is = none_some is
-plain_comes sys ws Global left right plain w is = none_some is
-plain_comes sys ws (Step s) left right plain w is = none_some is
+plain_comes sys ws Start left right plain w is = absurd (none-some _ is)
+plain_comes sys ws Global left right plain w is = absurd (none-some _ is)
+plain_comes sys ws (Step s) left right plain w is = absurd (none-some _ is)
 plain_comes sys ws (Sometime s) left right plain w is = absurd plain
 
 made_plain : (m : Model) {x : Line} → Makes m x → Plain x.kind

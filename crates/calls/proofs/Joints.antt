@@ -1,23 +1,13 @@
 -- The kinds that resolve with one another, case by case. Assumes nothing.
-use Rattle.std.proofs.Common.{◌≡◌, ℕ, Bool, true, false, cond, eqb, Some, None, Option, refl, subst, arith}
+use Rattle.std.proofs.Common.{◌≡◌, ℕ, Bool, true, false, cond, eqb, Some, None, Option, refl, subst}
 use Rattle.std.specs.Option.{option_map}
 use Rattle.std.proofs.lemmas.Bool.{eqb-true}
+use Rattle.std.proofs.lemmas.Option.{none-some, same_Some}
 use Rattle.clauses.specs.declared.kinds.Kind.{Kind}
 use Rattle.clauses.specs.declared.kinds.Kind.TheVariants.{Start, Global, Step, Sometime}
 use Rattle.clauses.specs.declared.kinds.Scope.{Scope}
 use Rattle.clauses.specs.declared.kinds.Scope.TheVariants.{All, Index}
 use Rattle.clauses.specs.Kinds.{joint_kind, joint_scope}
-
--- ---- something and nothing
-
-pub none_some : {X Y : Type 0} {x : X} → None ≡ Some x → Y
-none_some e = let z : ◌≡◌ {A = ℕ} 0 1 = cc in absurd (omega arith)
-
-pub some_none : {X Y : Type 0} {x : X} → Some x ≡ None → Y
-some_none e = let z : ◌≡◌ {A = ℕ} 0 1 = cc in absurd (omega arith)
-
-pub some_same : {X : Type 0} {x y : X} → Some x ≡ Some y → x ≡ y
-some_same e = cc
 
 -- ---- scopes and kinds
 
@@ -36,30 +26,30 @@ pub data Joint : Kind → Kind → Kind → Type 0 where
   step_step : {r u v : Scope} → JointScope r u v → Joint (Step r) (Step u) (Step v)
 
 scopes_join : (a b c : Scope) → joint_scope a b ≡ Some c → JointScope a b c
-scopes_join All b c e = subst (JointScope All b) (some_same e) (any_with b)
-scopes_join (Index i) All c e = subst (JointScope (Index i) All) (some_same e) (with_any i)
+scopes_join All b c e = subst (JointScope All b) (same_Some _ _ e) (any_with b)
+scopes_join (Index i) All c e = subst (JointScope (Index i) All) (same_Some _ _ e) (with_any i)
 scopes_join (Index i) (Index n) c e = by-test (eqb i n) refl e
   where
     by-test : (b : Bool) → eqb i n ≡ b → cond b (Some (Index i)) None ≡ Some c → JointScope (Index i) (Index n) c
-    by-test true is f = subst (λ j. JointScope (Index i) (Index j) c) (eqb-true i n is) (subst (JointScope (Index i) (Index i)) (some_same f) (with_itself i))
-    by-test false is f = none_some f
+    by-test true is f = subst (λ j. JointScope (Index i) (Index j) c) (eqb-true i n is) (subst (JointScope (Index i) (Index i)) (same_Some _ _ f) (with_itself i))
+    by-test false is f = absurd (none-some _ f)
 
 -- a joint kind comes of one of these cases
 pub kinds_join : (a b c : Kind) → joint_kind a b ≡ Some c → Joint a b c
-kinds_join Start Start c e = subst (Joint Start Start) (some_same e) start_start
-kinds_join Start Global c e = subst (Joint Start Global) (some_same e) start_global
-kinds_join Start (Step u) c e = none_some e
-kinds_join Start (Sometime u) c e = none_some e
-kinds_join Global Start c e = subst (Joint Global Start) (some_same e) global_start
-kinds_join Global Global c e = subst (Joint Global Global) (some_same e) global_global
-kinds_join Global (Step u) c e = subst (Joint Global (Step u)) (some_same e) (global_step u)
-kinds_join Global (Sometime u) c e = none_some e
-kinds_join (Step r) Start c e = none_some e
-kinds_join (Step r) Global c e = subst (Joint (Step r) Global) (some_same e) (step_global r)
+kinds_join Start Start c e = subst (Joint Start Start) (same_Some _ _ e) start_start
+kinds_join Start Global c e = subst (Joint Start Global) (same_Some _ _ e) start_global
+kinds_join Start (Step u) c e = absurd (none-some _ e)
+kinds_join Start (Sometime u) c e = absurd (none-some _ e)
+kinds_join Global Start c e = subst (Joint Global Start) (same_Some _ _ e) global_start
+kinds_join Global Global c e = subst (Joint Global Global) (same_Some _ _ e) global_global
+kinds_join Global (Step u) c e = subst (Joint Global (Step u)) (same_Some _ _ e) (global_step u)
+kinds_join Global (Sometime u) c e = absurd (none-some _ e)
+kinds_join (Step r) Start c e = absurd (none-some _ e)
+kinds_join (Step r) Global c e = subst (Joint (Step r) Global) (same_Some _ _ e) (step_global r)
 kinds_join (Step r) (Step u) c e = by-scope (joint_scope r u) refl e
   where
     by-scope : (o : Option Scope) → joint_scope r u ≡ o → option_map Step o ≡ Some c → Joint (Step r) (Step u) c
-    by-scope None is f = none_some f
-    by-scope (Some v) is f = subst (Joint (Step r) (Step u)) (some_same f) (step_step (scopes_join r u v is))
-kinds_join (Step r) (Sometime u) c e = none_some e
-kinds_join (Sometime r) b c e = none_some e
+    by-scope None is f = absurd (none-some _ f)
+    by-scope (Some v) is f = subst (Joint (Step r) (Step u)) (same_Some _ _ f) (step_step (scopes_join r u v is))
+kinds_join (Step r) (Sometime u) c e = absurd (none-some _ e)
+kinds_join (Sometime r) b c e = absurd (none-some _ e)

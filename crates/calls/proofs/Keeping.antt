@@ -1,5 +1,6 @@
 -- The lines made stay lawful. Assumes nothing.
 use Rattle.std.proofs.Common.{◌≡◌, ℕ, zero, suc, ◌<◌, ◌≤◌, Bool, true, false, cond, not, ◌&&◌, ◌||◌, eqb, ltb, leb, List, [], ◌∷◌, ◌++◌, length, get_or, is_some, Some, None, Option, sym, refl, ap, ◌∙◌, subst, true≢false, arith, eq-eqb}
+use Rattle.std.proofs.lemmas.Bool.{and_from, and_parts, not-false, or_right}
 use Rattle.std.specs.Option.{option_map}
 use Rattle.std.specs.List.{AllByRecursion as All}
 use Rattle.clauses.specs.declared.kinds.Kind.{Kind}
@@ -19,19 +20,6 @@ use Rattle.calls.specs.Calls.{line_at}
 use Rattle.calls.specs.Lawful.{indexed, lawful, lawful_line, sized, waited}
 use Rattle.calls.specs.Waits.{admitted, held, same_scope, same_wait, wait_of}
 
--- ---- tests joined by and
-
-pub both : (a b : Bool) → a ≡ true → b ≡ true → (a && b) ≡ true
-both a b p q = λ i. p i && q i
-
-pub first_so : (a b : Bool) → (a && b) ≡ true → a ≡ true
-first_so true b h = refl
-first_so false b h = h
-
-pub second_so : (a b : Bool) → (a && b) ≡ true → b ≡ true
-second_so true b h = h
-second_so false b h = absurd (true≢false (sym h))
-
 -- where there is no first cause, none holds
 pub all_none : (cs : List Cause) → first_of cs ≡ None → All (λ c. c.1 ≡ false) cs
 all_none [] h = tt
@@ -41,26 +29,18 @@ all_none (c ∷ cs) h = by-test (all_none cs) c.1 refl h
     by-test later true e k = let z : ◌≡◌ {A = ℕ} 0 1 = cc in absurd (omega arith)
     by-test later false e k = (e, later k)
 
-pub not_false : (b : Bool) → not b ≡ false → b ≡ true
-not_false true h = refl
-not_false false h = sym h
-
 -- ---- waits that are given out
 
 same_itself : (w : Wait) → same_wait w w ≡ true
-same_itself w = both (same_scope w.scope w.scope) (eqb w.goal.0 w.goal.0) (by-scope w.scope) (eq-eqb w.goal.0 w.goal.0 refl)
+same_itself w = and_from (same_scope w.scope w.scope) (eqb w.goal.0 w.goal.0) (by-scope w.scope) (eq-eqb w.goal.0 w.goal.0 refl)
   where
     by-scope : (s : Scope) → same_scope s s ≡ true
     by-scope scope.All = refl
     by-scope (scope.Index i) = eq-eqb i i refl
 
-either_so : (a b : Bool) → b ≡ true → (a || b) ≡ true
-either_so true b h = refl
-either_so false b h = h
-
 held_last : (ws : List Wait) (w : Wait) → held (ws ++ w ∷ []) w ≡ true
 held_last [] w = ap (λ b. b || false) (same_itself w)
-held_last (v ∷ vs) w = either_so (same_wait v w) (held (vs ++ w ∷ []) w) (held_last vs w)
+held_last (v ∷ vs) w = or_right (same_wait v w) (held (vs ++ w ∷ []) w) (held_last vs w)
 
 held_more : (ws : List Wait) (v w : Wait) → held ws w ≡ true → held (ws ++ v ∷ []) w ≡ true
 held_more [] v w h = absurd (true≢false (sym h))
@@ -94,16 +74,16 @@ waited_more ws o (Some w) h = held_admitted ws o w h
 
 line_more : (ws : List Wait) (o : Option Wait) (x : Line) → lawful_line ws x ≡ true → lawful_line (admitted ws o) x ≡ true
 line_more ws o x h =
-    let rest = second_so (proper x) _ h in
-    both (proper x) _ (first_so (proper x) _ h) (both (waited (admitted ws o) (wait_of x)) _ (waited_more ws o (wait_of x) (first_so (waited ws (wait_of x)) _ rest)) (second_so (waited ws (wait_of x)) _ rest))
+    let rest = (and_parts (proper x) _ h).1 in
+    and_from (proper x) _ ((and_parts (proper x) _ h).0) (and_from (waited (admitted ws o) (wait_of x)) _ (waited_more ws o (wait_of x) ((and_parts (waited ws (wait_of x)) _ rest).0)) ((and_parts (waited ws (wait_of x)) _ rest).1))
 
 pub lawful_more : (ws : List Wait) (o : Option Wait) (xs : List Line) → lawful ws xs ≡ true → lawful (admitted ws o) xs ≡ true
 lawful_more ws o [] h = refl
-lawful_more ws o (x ∷ xs) h = both (lawful_line (admitted ws o) x) _ (line_more ws o x (first_so (lawful_line ws x) _ h)) (lawful_more ws o xs (second_so (lawful_line ws x) _ h))
+lawful_more ws o (x ∷ xs) h = and_from (lawful_line (admitted ws o) x) _ (line_more ws o x ((and_parts (lawful_line ws x) _ h).0)) (lawful_more ws o xs ((and_parts (lawful_line ws x) _ h).1))
 
 pub lawful_push : (ws : List Wait) (xs : List Line) (x : Line) → lawful ws xs ≡ true → lawful_line ws x ≡ true → lawful ws (xs ++ x ∷ []) ≡ true
-lawful_push ws [] x h k = both (lawful_line ws x) true k refl
-lawful_push ws (y ∷ ys) x h k = both (lawful_line ws y) _ (first_so (lawful_line ws y) _ h) (lawful_push ws ys x (second_so (lawful_line ws y) _ h) k)
+lawful_push ws [] x h k = and_from (lawful_line ws x) true k refl
+lawful_push ws (y ∷ ys) x h k = and_from (lawful_line ws y) _ ((and_parts (lawful_line ws y) _ h).0) (lawful_push ws ys x ((and_parts (lawful_line ws y) _ h).1) k)
 
 -- the causes of a rule whose kind is named or not
 abbrev causes_by : Option Kind → List Literal → List Literal → List Cause
@@ -113,20 +93,20 @@ marked_lawful : (ws : List Wait) (l r : List Literal) (kind : Kind) → (ascends
 marked_lawful ws l r kind up shape short =
     let y = marked l r kind in
     let w = wait_of y in
-    let ascending = both (ascends (literals (side_of l))) (ascends (literals (side_of r))) (ap ascends (literals_of l) ∙ first_so (ascends l) (ascends r) up) (ap ascends (literals_of r) ∙ second_so (ascends l) (ascends r) up) in
-    let few = ap (λ s. leb (length s) (most_left kind)) (literals_of l) ∙ first_so (leb (length l) (most_left kind)) (leb (length r) 16) short in
+    let ascending = and_from (ascends (literals (side_of l))) (ascends (literals (side_of r))) (ap ascends (literals_of l) ∙ (and_parts (ascends l) (ascends r) up).0) (ap ascends (literals_of r) ∙ (and_parts (ascends l) (ascends r) up).1) in
+    let few = ap (λ s. leb (length s) (most_left kind)) (literals_of l) ∙ (and_parts (leb (length l) (most_left kind)) (leb (length r) 16) short).0 in
     let formed = (λ i. shaped kind (length (literals_of l i)) (length (literals_of r i))) ∙ shape in
-    both (proper y) (waited (admitted ws w) w && sized y) ascending
-    (both (waited (admitted ws w) w) (sized y) (waited_admitted ws w) (both (leb (length (literals y.left)) (most_left kind)) (shaped kind (length (literals y.left)) (length (literals y.right))) few formed))
+    and_from (proper y) (waited (admitted ws w) w && sized y) ascending
+    (and_from (waited (admitted ws w) w) (sized y) (waited_admitted ws w) (and_from (leb (length (literals y.left)) (most_left kind)) (shaped kind (length (literals y.left)) (length (literals y.right))) few formed))
 
 kind_lawful : (ws : List Wait) (l r : List Literal) (x : Line) (o : Option Kind) → first_of (causes_by o l r) ≡ None → Some x ≡ option_map (marked l r) o → lawful_line (admitted ws (wait_of x)) x ≡ true
 kind_lawful ws l r x None h e = let z : ◌≡◌ {A = ℕ} 0 1 = cc in absurd (omega arith)
 kind_lawful ws l r x (Some kind) h e =
     let same : x ≡ marked l r kind = cc in
     let none = all_none (causes_by (Some kind) l r) h in
-    let up = not_false (ascends l && ascends r) none.1.1.0 in
-    let shape = not_false (shaped kind (length l) (length r)) none.1.1.1.0 in
-    let short = not_false (leb (length l) (most_left kind) && leb (length r) 16) none.1.1.1.1.0 in
+    let up = not-false (ascends l && ascends r) none.1.1.0 in
+    let shape = not-false (shaped kind (length l) (length r)) none.1.1.1.0 in
+    let short = not-false (leb (length l) (most_left kind) && leb (length r) 16) none.1.1.1.1.0 in
     subst (λ z. lawful_line (admitted ws (wait_of z)) z ≡ true) (sym same) (marked_lawful ws l r kind up shape short)
 
 -- ---- indices
@@ -159,13 +139,13 @@ rule_indexed k n i l r x is = by_kind (kind_of n i k) (named_under k n i) is
     by_kind (Some kind) under e = let same : x ≡ marked l r kind = cc in ap (λ (y : Line). kind_under k y.kind) same ∙ under
 
 pub indexed_push : (k : ℕ) (xs : List Line) (x : Line) → indexed k xs ≡ true → kind_under k x.kind ≡ true → indexed k (xs ++ x ∷ []) ≡ true
-indexed_push k [] x h e = both (kind_under k x.kind) true e refl
-indexed_push k (y ∷ ys) x h e = both (kind_under k y.kind) _ (first_so (kind_under k y.kind) _ h) (indexed_push k ys x (second_so (kind_under k y.kind) _ h) e)
+indexed_push k [] x h e = and_from (kind_under k x.kind) true e refl
+indexed_push k (y ∷ ys) x h e = and_from (kind_under k y.kind) _ ((and_parts (kind_under k y.kind) _ h).0) (indexed_push k ys x ((and_parts (kind_under k y.kind) _ h).1) e)
 
 pub indexed_at : (k : ℕ) (xs : List Line) (n : ℕ) → n < length xs → indexed k xs ≡ true → kind_under k (get_or xs n blank).kind ≡ true
 indexed_at k [] n h e = absurd (omega arith)
-indexed_at k (x ∷ xs) zero h e = first_so (kind_under k x.kind) (indexed k xs) e
-indexed_at k (x ∷ xs) (suc n) h e = indexed_at k xs n (omega arith) (second_so (kind_under k x.kind) (indexed k xs) e)
+indexed_at k (x ∷ xs) zero h e = (and_parts (kind_under k x.kind) (indexed k xs) e).0
+indexed_at k (x ∷ xs) (suc n) h e = indexed_at k xs n (omega arith) ((and_parts (kind_under k x.kind) (indexed k xs) e).1)
 
 -- the line of a rule that nothing stands against
 pub rule_lawful : (ws : List Wait) (k n i : ℕ) (l r : List Literal) (x : Line) → first_of (rule_causes k n i l r) ≡ None → Some x ≡ rule_line k n i l r → lawful_line (admitted ws (wait_of x)) x ≡ true
@@ -185,5 +165,5 @@ at_some (x ∷ xs) (suc n) h = at_some xs n (omega arith)
 
 pub lawful_at : (ws : List Wait) (xs : List Line) (n : ℕ) → n < length xs → lawful ws xs ≡ true → lawful_line ws (get_or xs n blank) ≡ true
 lawful_at ws [] n h k = absurd (omega arith)
-lawful_at ws (x ∷ xs) zero h k = first_so (lawful_line ws x) (lawful ws xs) k
-lawful_at ws (x ∷ xs) (suc n) h k = lawful_at ws xs n (omega arith) (second_so (lawful_line ws x) (lawful ws xs) k)
+lawful_at ws (x ∷ xs) zero h k = (and_parts (lawful_line ws x) (lawful ws xs) k).0
+lawful_at ws (x ∷ xs) (suc n) h k = lawful_at ws xs n (omega arith) ((and_parts (lawful_line ws x) (lawful ws xs) k).1)

@@ -4,6 +4,7 @@ use Rattle.std.specs.List.{AllByRecursion as All}
 use Rattle.std.proofs.ByRecursion.{All-from_get_or, All-get_or, All-push}
 use Rattle.std.proofs.lemmas.List.{nil_from_length}
 use Rattle.std.proofs.lemmas.Bool.{eqb-true, false≢true, true≢false}
+use Rattle.std.proofs.lemmas.Option.{none-some}
 use Rattle.clauses.specs.declared.kinds.Kind.{Kind}
 use Rattle.clauses.specs.declared.kinds.Kind.TheVariants.{Start, Global, Step, Sometime}
 use Rattle.clauses.specs.declared.lines.Line.{Line}
@@ -22,7 +23,6 @@ use Rattle.calls.specs.Waits.{admitted, held, wait_of}
 use Rattle.calls.proofs.Extending.{extended}
 use Rattle.calls.proofs.Fitting.{Fit, all_fit, all_front, all_indices, call_fits, judged_fit}
 use Rattle.calls.proofs.Invariant.{Front, Inv, KeptIfMarked, steps_inv}
-use Rattle.calls.proofs.Joints.{none_some}
 use Rattle.calls.proofs.Stepping.{Makes, resolved, rewritten, entered, stayed, met_now, met_later, Steps, nothing, rules, makes, opens, supposes, closes, drops, call_steps}
 use Rattle.calls.proofs.Supposing.{TrueLine, TrueOf}
 
@@ -122,7 +122,7 @@ fresh_inv sys ws = record {
   comings = tt;
   goals = tt;
   one_open = λ a b h k. absurd (false≢true h);
-  rows_met = λ n z at over. none_some at;
+  rows_met = λ n z at over. absurd (none-some _ at);
 }
 
 -- ---- what refutes is true of no system

@@ -2,6 +2,7 @@
 use Rattle.std.proofs.Common.{◌≡◌, ℕ, ◌+◌, ◌-◌, ◌/◌, ◌%◌, Bool, true, false, cond, not, ◌&&◌, ◌||◌, eqb, List, [], ◌∷◌, sym, refl, ap, ◌∙◌, ⊎_elim, arith}
 use Rattle.std.specs.Cmp.{unsigned_tied}
 use Rattle.std.specs.Ordering.{is_eq, is_lt}
+use Rattle.std.proofs.Math.Bool.{and_assoc, and_self_left, not-not, or_assoc, or_self_left}
 use Rattle.std.proofs.lemmas.Bool.{both_ways, cases_Bool, false≢true, eqb-true, eqb-false, eq-eqb, ne_eqb, not_from_false, and_parts, and_from, or_cases, or_left, or_right, cond-true, cond-false}
 use Rattle.ordered.specs.Lists.{holds, within}
 use Rattle.ordered.specs.Unions.{insert, union}
@@ -19,54 +20,34 @@ tied_literal x y e = one_literal x y (sym (unsigned_tied x.0 y.0) ∙ e)
 
 -- ---- a test of every literal or of some, over a union
 
-module _ (op : Bool → Bool → Bool) (swap : (a b c : Bool) → op a (op b c) ≡ op b (op a c)) (twice : (a c : Bool) → op a c ≡ op a (op a c)) (f : Literal → Bool) (F : List Literal → Bool) (more : (x : Literal) (xs : List Literal) → F (x ∷ xs) ≡ op (f x) (F xs)) where
+module _ (op : Bool → Bool → Bool) (swap : (a b c : Bool) → op a (op b c) ≡ op b (op a c)) (twice : (a c : Bool) → op a (op a c) ≡ op a c) (f : Literal → Bool) (F : List Literal → Bool) (more : (x : Literal) (xs : List Literal) → F (x ∷ xs) ≡ op (f x) (F xs)) where
   insert_says : (x : Literal) (ys : List Literal) → F (insert literal_rank x ys) ≡ op (f x) (F ys)
   insert_says x [] = more x []
   insert_says x (y ∷ ys) = by_tests (is_lt (literal_rank x y)) (is_eq (literal_rank x y)) refl (insert_says x ys)
     where
       by_tests : (a b : Bool) → is_eq (literal_rank x y) ≡ b → F (insert literal_rank x ys) ≡ op (f x) (F ys) → F (cond a (x ∷ y ∷ ys) (cond b (y ∷ ys) (y ∷ insert literal_rank x ys))) ≡ op (f x) (F (y ∷ ys))
       by_tests true b e rest = more x (y ∷ ys)
-      by_tests false true e rest = more y ys ∙ twice (f y) (F ys) ∙ (λ i. op (f (sym (tied_literal x y e) i)) (sym (more y ys) i))
+      by_tests false true e rest = more y ys ∙ sym (twice (f y) (F ys)) ∙ (λ i. op (f (sym (tied_literal x y e) i)) (sym (more y ys) i))
       by_tests false false e rest = more y (insert literal_rank x ys) ∙ ap (op (f y)) rest ∙ swap (f y) (f x) (F ys) ∙ ap (op (f x)) (sym (more y ys))
 
-  union_says : ((c : Bool) → c ≡ op (F []) c) → ((a b c : Bool) → op a (op b c) ≡ op (op a b) c) → (xs ys : List Literal) → F (union literal_rank xs ys) ≡ op (F xs) (F ys)
+  union_says : ((c : Bool) → c ≡ op (F []) c) → ((a b c : Bool) → op (op a b) c ≡ op a (op b c)) → (xs ys : List Literal) → F (union literal_rank xs ys) ≡ op (F xs) (F ys)
   union_says none assoc [] ys = none (F ys)
   union_says none assoc (x ∷ xs) ys =
-      insert_says x (union literal_rank xs ys) ∙ ap (op (f x)) (union_says none assoc xs ys) ∙ assoc (f x) (F xs) (F ys) ∙ ap (λ b. op b (F ys)) (sym (more x xs))
+      insert_says x (union literal_rank xs ys) ∙ ap (op (f x)) (union_says none assoc xs ys) ∙ sym (assoc (f x) (F xs) (F ys)) ∙ ap (λ b. op b (F ys)) (sym (more x xs))
 
 or_swap : (a b c : Bool) → (a || (b || c)) ≡ (b || (a || c))
 or_swap true true c = refl
 or_swap true false c = refl
 or_swap false b c = refl
 
-or_twice : (a c : Bool) → (a || c) ≡ (a || (a || c))
-or_twice true c = refl
-or_twice false c = refl
-
-or_assoc : (a b c : Bool) → (a || (b || c)) ≡ ((a || b) || c)
-or_assoc true b c = refl
-or_assoc false b c = refl
-
 and_swap : (a b c : Bool) → (a && (b && c)) ≡ (b && (a && c))
 and_swap true b c = refl
 and_swap false true c = refl
 and_swap false false c = refl
 
-and_twice : (a c : Bool) → (a && c) ≡ (a && (a && c))
-and_twice true c = refl
-and_twice false c = refl
-
-and_assoc : (a b c : Bool) → (a && (b && c)) ≡ ((a && b) && c)
-and_assoc true b c = refl
-and_assoc false b c = refl
-
 de_morgan : (a b : Bool) → (not a || not b) ≡ not (a && b)
 de_morgan true b = refl
 de_morgan false b = refl
-
-not_twice : (b : Bool) → b ≡ not (not b)
-not_twice true = refl
-not_twice false = refl
 
 -- ---- at a state of any system
 
@@ -84,16 +65,16 @@ module _ (sys : System) (s : ℕ) where
           let odd = eqb-false (l.0 % 2) 0 e in
           let some : l.0 % 2 ≡ 1 = omega arith in
           let half : (l.0 - 1) / 2 ≡ l.0 / 2 = omega arith in
-          cond-true _ _ _ (eq-eqb ((l.0 - 1) % 2) 0 (omega arith)) ∙ ap (λ a. sys.holds s a) half ∙ not_twice _
+          cond-true _ _ _ (eq-eqb ((l.0 - 1) % 2) 0 (omega arith)) ∙ ap (λ a. sys.holds s a) half ∙ sym (not-not _)
 
   right_insert : (x : Literal) (ys : List Literal) → right_at sys (insert literal_rank x ys) s ≡ (literal_at sys s x || right_at sys ys s)
-  right_insert = insert_says ◌||◌ or_swap or_twice (literal_at sys s) (λ xs. right_at sys xs s) (λ x xs. refl)
+  right_insert = insert_says ◌||◌ or_swap or_self_left (literal_at sys s) (λ xs. right_at sys xs s) (λ x xs. refl)
 
   pub right_join : (xs ys : List Literal) → right_at sys (join xs ys) s ≡ (right_at sys xs s || right_at sys ys s)
-  right_join = union_says ◌||◌ or_swap or_twice (literal_at sys s) (λ xs. right_at sys xs s) (λ x xs. refl) (λ c. refl) or_assoc
+  right_join = union_says ◌||◌ or_swap or_self_left (literal_at sys s) (λ xs. right_at sys xs s) (λ x xs. refl) (λ c. refl) or_assoc
 
   pub left_join : (xs ys : List Literal) → left_at sys (join xs ys) s ≡ (left_at sys xs s && left_at sys ys s)
-  left_join = union_says ◌&&◌ and_swap and_twice (literal_at sys s) (λ xs. left_at sys xs s) (λ x xs. refl) (λ c. refl) and_assoc
+  left_join = union_says ◌&&◌ and_swap and_self_left (literal_at sys s) (λ xs. left_at sys xs s) (λ x xs. refl) (λ c. refl) and_assoc
 
   -- some opposite holds exactly where not every literal does
   pub right_opposites : (xs : List Literal) → right_at sys (opposites xs) s ≡ not (left_at sys xs s)

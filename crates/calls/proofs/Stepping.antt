@@ -1,7 +1,8 @@
 -- How a call changes the model: nothing, one line more, or a change of one loop. Assumes nothing.
 use Rattle.std.proofs.Common.{◌≡◌, ℕ, Bool, true, false, cond, ◌&&◌, ◌||◌, leb, List, [], ◌∷◌, ◌++◌, length, is_some, Some, None, Option, sym, refl, ap, ◌∙◌}
 use Rattle.std.specs.Option.{option_map}
-use Rattle.std.proofs.lemmas.Bool.{false≢true, true≢false, and_parts, or_parts}
+use Rattle.std.proofs.lemmas.Bool.{false≢true, true≢false, and_parts, not-false, or_parts}
+use Rattle.std.proofs.lemmas.Option.{none-some, same_Some}
 use Rattle.clauses.specs.declared.kinds.Kind.{Kind}
 use Rattle.clauses.specs.declared.kinds.Kind.TheVariants.{Global, Step}
 use Rattle.clauses.specs.declared.lines.Line.{Line}
@@ -17,8 +18,8 @@ use Rattle.calls.specs.Loops.{Row, at_loop, closed_row, is_closed, loop_at, open
 use Rattle.calls.specs.Models.{Loop, Model, closed, dropped}
 use Rattle.calls.specs.Waits.{and_then, place_of, wait_of}
 use Rattle.calls.proofs.Extending.{one_wait}
-use Rattle.calls.proofs.Joints.{Joint, kinds_join, none_some, some_none, some_same}
-use Rattle.calls.proofs.Keeping.{all_none, not_false, rule_indexed}
+use Rattle.calls.proofs.Joints.{Joint, kinds_join}
+use Rattle.calls.proofs.Keeping.{all_none, rule_indexed}
 
 -- ---- the ways
 
@@ -64,26 +65,26 @@ row_closed : (loops : List Loop) (n r : ℕ) (w : Row) → closed_row loops n r 
 row_closed loops n r w e = by_loop (loop_at loops n) refl e
   where
     by_row : (z : Loop) → loop_at loops n ≡ Some z → (b : Bool) → is_closed z.standing ≡ b → (o : Option (List Literal)) → row_at z.rows r ≡ o → cond b (option_map (λ p. record { wait = waited_by z; literals = p }) o) None ≡ Some w → ClosedAt loops n w
-    by_row z there true over None among is = none_some is
+    by_row z there true over None among is = absurd (none-some _ is)
     by_row z there true over (Some p) among is =
-        let row_is : ◌≡◌ {A = Row} (record { wait = waited_by z; literals = p }) w = some_same is in
+        let row_is : ◌≡◌ {A = Row} (record { wait = waited_by z; literals = p }) w = same_Some _ _ is in
         record { loop = z; there = there; over = over; place = r; among = among ∙ ap (λ (v : Row). Some v.literals) row_is; same = sym (ap (λ (v : Row). v.wait) row_is) }
-    by_row z there false over o among is = none_some is
+    by_row z there false over o among is = absurd (none-some _ is)
 
     by_loop : (o : Option Loop) → loop_at loops n ≡ o → and_then o (row_of r) ≡ Some w → ClosedAt loops n w
-    by_loop None there is = none_some is
+    by_loop None there is = absurd (none-some _ is)
     by_loop (Some z) there is = by_row z there (is_closed z.standing) refl (row_at z.rows r) refl is
 
 module _ (m : Model) (R : Type 0) where
   rule_steps : (n i : ℕ) (l r : List Literal) → R → first_of (rule_causes m.indices n i l r ++ (18, full m || line_waitless m.waits (rule_line m.indices n i l r)) ∷ []) ≡ None → Steps m R (with_line m (rule_line m.indices n i l r))
   rule_steps n i l r accepted h =
       let causeless = all_none (rule_causes m.indices n i l r ++ (18, full m || line_waitless m.waits (rule_line m.indices n i l r)) ∷ []) h in
-      by_kind (and_parts (in_range l) (in_range r) (not_false (in_range l && in_range r) causeless.1.0)) (kind_of n i m.indices) refl causeless.1.1.1.0
+      by_kind (and_parts (in_range l) (in_range r) (not-false (in_range l && in_range r) causeless.1.0)) (kind_of n i m.indices) refl causeless.1.1.1.0
     where
       by_kind : (in_range l ≡ true) × (in_range r ≡ true) → (o : Option Kind) → kind_of n i m.indices ≡ o → fails (λ kind. shaped kind (length l) (length r)) o ≡ false → Steps m R (with_line m (option_map (marked l r) o))
       by_kind low None is formed = nothing
       by_kind low (Some kind) is formed =
-          rules accepted kind l r (rule_indexed m.indices n i l r (marked l r kind) (ap (option_map (marked l r)) (sym is))) low.0 low.1 (not_false (shaped kind (length l) (length r)) formed)
+          rules accepted kind l r (rule_indexed m.indices n i l r (marked l r kind) (ap (option_map (marked l r)) (sym is))) low.0 low.1 (not-false (shaped kind (length l) (length r)) formed)
 
   resolve_steps : (a b : ℕ) (l : Literal) (o p : Option Line) → line_at m.lines a ≡ o → line_at m.lines b ≡ p → first_of (resolve_causes m.loops o p l ++ (18, full m) ∷ []) ≡ None → Steps m R (with_made m (resolved_of o p l))
   resolve_steps a b l None p at_a at_b h = nothing
@@ -100,7 +101,7 @@ module _ (m : Model) (R : Type 0) where
   rewrite_steps n None at h = nothing
   rewrite_steps n (Some x) at h =
       let causeless = all_none (rewrite_causes (Some x) ++ (18, full m) ∷ []) h in
-      makes _ (rewritten n x at (not_false (rewritable x) causeless.0) (none_there x.belongs causeless.1.0))
+      makes _ (rewritten n x at (not-false (rewritable x) causeless.0) (none_there x.belongs causeless.1.0))
 
   -- the line of a wait, where the wait has been given out
   place_steps : (w : Wait) (f : ℕ → Line) → ((p : ℕ) → place_of m.waits w ≡ Some p → Makes m (f p)) → Steps m R (with_made m (option_map f (place_of m.waits w)))
@@ -147,7 +148,7 @@ module _ (m : Model) (R : Type 0) where
   now_steps n r i (Some w) None at_row at h = nothing
   now_steps n r i (Some w) (Some x) at_row at h =
       let causeless = all_none (now_causes (Some w) (Some x) ++ (18, full m) ∷ []) h in
-      by-wait (wait_of x) refl (not_false (fits_row w.wait (wait_of x)) causeless.0)
+      by-wait (wait_of x) refl (not-false (fits_row w.wait (wait_of x)) causeless.0)
     where
       by-wait : (o : Option Wait) → wait_of x ≡ o → fits_row w.wait o ≡ true → Steps m R (with_made m (Some (made Global [] (now_right w x) None)))
       by-wait None is fits = absurd (false≢true fits)
@@ -174,9 +175,9 @@ accepted_steps m (judge sys bytes) h = nothing
 accepted_steps m (loop n) h = loop_steps m _ n (line_at m.lines n) refl (shut (line_at m.lines n) h)
   where
     shut : (o : Option Line) → first_of (wait_causes o ++ (16, some_open m.loops) ∷ (18, leb 64 (length m.loops)) ∷ []) ≡ None → some_open m.loops ≡ false
-    shut None none = some_none none
+    shut None none = absurd (none-some _ (sym none))
     shut (Some x) none = (all_none (wait_causes (Some x) ++ (16, some_open m.loops) ∷ (18, leb 64 (length m.loops)) ∷ []) none).1.0
-accepted_steps m (row n p) h = row_steps m _ n p (loop_at m.loops n) refl (not_false (open_here m.loops n) (all_none (causes m (row n p)) h).1.1.1.0)
+accepted_steps m (row n p) h = row_steps m _ n p (loop_at m.loops n) refl (not-false (open_here m.loops n) (all_none (causes m (row n p)) h).1.1.1.0)
 accepted_steps m (ready n) h = nothing
 accepted_steps m (end n) h = end_steps m _ n (unmet_row m n) refl
 accepted_steps m (drop n) h = drops n

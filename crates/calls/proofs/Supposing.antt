@@ -4,6 +4,7 @@ use Rattle.std.proofs.Common.{◌≡◌, ℕ, zero, suc, ◌<◌, ◌≤◌, tru
 use Rattle.std.specs.List.{AllByRecursion as All}
 use Rattle.std.proofs.lemmas.List.{nil_from_length}
 use Rattle.std.proofs.lemmas.Bool.{and_parts, eqb-true, leb-true}
+use Rattle.std.proofs.lemmas.Option.{none-some, same_Some}
 use Rattle.clauses.specs.declared.kinds.Kind.{Kind}
 use Rattle.clauses.specs.declared.kinds.Kind.TheVariants.{Start, Global, Step, Sometime}
 use Rattle.clauses.specs.declared.lines.Line.{Line}
@@ -20,7 +21,6 @@ use Rattle.calls.specs.Loops.{at_loop, loop_at, row_right}
 use Rattle.calls.specs.Models.{Loop}
 use Rattle.calls.specs.Waits.{wait_for}
 use Rattle.calls.proofs.Extending.{comes, extended, layout_left, layout_right}
-use Rattle.calls.proofs.Joints.{none_some, some_same}
 
 -- ---- what a line says
 
@@ -109,14 +109,14 @@ module _ (sys : System) (ws : List Wait) where
     says-true loops (Sometime scope) says s t from to asks = absurd asks
 
   says_comes : (l r : List Literal) → in_range l ≡ true → in_range r ≡ true → (kind : Kind) → WellFormed sys → Fits sys kind → shaped kind (length l) (length r) ≡ true → ((s : ℕ) → s < sys.states → SaysOf sys kind l r s) → ComesOf sys ws kind l r
-  says_comes l r low-left low-right Start wf fits formed says w is = none_some is
-  says_comes l r low-left low-right Global wf fits formed says w is = none_some is
-  says_comes l r low-left low-right (Step scope) wf fits formed says w is = none_some is
-  says_comes l [] low-left low-right (Sometime scope) wf fits formed says w is = none_some is
+  says_comes l r low-left low-right Start wf fits formed says w is = absurd (none-some _ is)
+  says_comes l r low-left low-right Global wf fits formed says w is = absurd (none-some _ is)
+  says_comes l r low-left low-right (Step scope) wf fits formed says w is = absurd (none-some _ is)
+  says_comes l [] low-left low-right (Sometime scope) wf fits formed says w is = absurd (none-some _ is)
   says_comes l (g ∷ gs) low-left low-right (Sometime scope) wf fits formed says w is =
       let counted = eqb-true (length (g ∷ gs)) 1 formed in
       let alone : gs ≡ [] = nil_from_length gs (omega arith) in
-      subst (λ (v : Wait). (v.goal.0 ≤ 2047) × ((s : ℕ) → s < sys.states → left_at (extended sys ws) l s ≡ true → comes sys v s ≡ true)) (some_same is) (
+      subst (λ (v : Wait). (v.goal.0 ≤ 2047) × ((s : ℕ) → s < sys.states → left_at (extended sys ws) l s ≡ true → comes sys v s ≡ true)) (same_Some _ _ is) (
         leb-true g.0 2047 (and_parts _ (in_range gs) low-right).0,
         λ s from left.
             (sooner_decides sys scope (g ∷ []) s wf fits from).1
