@@ -1,6 +1,6 @@
 -- The index of every line and of every loop is one of the inspection's, so what is judged is true. Assumes nothing.
 use Rattle.std.proofs.Common.{◌≡◌, ℕ, zero, suc, true, not, eqb, ltb, List, [], ◌∷◌, ◌++◌, get_or, Some, None, Option, sym, refl, ap, ◌∙◌, subst, arith}
-use Rattle.std.specs.List.{AllByRecursion as All}
+use Rattle.std.specs.List.{AllByRecursion as All, slice_get}
 use Rattle.std.proofs.ByRecursion.{All-get_or, All-push}
 use Rattle.std.proofs.lemmas.Bool.{eqb-true, ltb-true, not-false, or_parts}
 use Rattle.std.proofs.lemmas.Option.{none-some, same_Some}
@@ -23,24 +23,20 @@ use Rattle.judging.proofs.Exact.{judgement_exact}
 use Rattle.calls.specs.declared.waits.Wait.{Wait}
 use Rattle.calls.specs.Calls.{Call, judge, refused, after, answer, answer_by, judged_as, line_at}
 use Rattle.calls.specs.Law.{after_all}
-use Rattle.calls.specs.Loops.{add_row, at_loop, loop_at, opening, standing_as, supposed}
+use Rattle.calls.specs.Loops.{add_row, at_loop, opening, standing_as, supposed}
 use Rattle.calls.specs.Models.{Loop, Model, closed, dropped}
 use Rattle.calls.specs.Waits.{wait_for, wait_of}
 use Rattle.calls.proofs.Joints.{Joint, start_start, start_global, global_start, global_global, global_step, step_global, step_step, JointScope, any_with, with_any, with_itself}
 use Rattle.calls.proofs.Keeping.{all_none}
 use Rattle.calls.proofs.Stepping.{Makes, resolved, rewritten, entered, stayed, met_now, met_later, Steps, nothing, rules, makes, opens, supposes, closes, drops, call_steps}
 
--- ---- what holds of every line and of every loop
+-- ---- what holds of every element
 
-pub line_all : (P : Line → Type 0) (xs : List Line) (n : ℕ) (x : Line) → All P xs → line_at xs n ≡ Some x → P x
-line_all P [] n x all at = absurd (none-some _ at)
-line_all P (y ∷ ys) zero x all at = subst P (same_Some _ _ at) all.0
-line_all P (y ∷ ys) (suc n) x all at = line_all P ys n x all.1 at
-
-pub loop_all : (P : Loop → Type 0) (xs : List Loop) (n : ℕ) (x : Loop) → All P xs → loop_at xs n ≡ Some x → P x
-loop_all P [] n x all at = absurd (none-some _ at)
-loop_all P (y ∷ ys) zero x all at = subst P (same_Some _ _ at) all.0
-loop_all P (y ∷ ys) (suc n) x all at = loop_all P ys n x all.1 at
+-- what holds of every element of a list holds of the one at a place
+pub all_got : {X : Type 0} (P : X → Type 0) (xs : List X) (n : ℕ) (x : X) → All P xs → slice_get xs n ≡ Some x → P x
+all_got P [] n x all at = absurd (none-some _ at)
+all_got P (y ∷ ys) zero x all at = subst P (same_Some _ _ at) all.0
+all_got P (y ∷ ys) (suc n) x all at = all_got P ys n x all.1 at
 
 pub all_at_loop : (P : Loop → Type 0) (n : ℕ) (f : Loop → Loop) → ((x : Loop) → P x → P (f x)) → (xs : List Loop) → All P xs → All P (at_loop n f xs)
 all_at_loop P n f keep [] all = tt
@@ -86,17 +82,17 @@ wait_under k (Sometime s) [] w h e = absurd (none-some _ e)
 wait_under k (Sometime s) (g ∷ gs) w h e = ap (λ (v : Wait). scope_under k v.scope) (sym (same_Some _ _ e)) ∙ h
 
 pub line_wait_under : (m : Model) (n : ℕ) (x : Line) (w : Wait) → Fit m → line_at m.lines n ≡ Some x → wait_of x ≡ Some w → scope_under m.indices w.scope ≡ true
-line_wait_under m n x w fit at is = wait_under m.indices x.kind (literals x.right) w (line_all (LineUnder m.indices) m.lines n x fit.lines at) is
+line_wait_under m n x w fit at is = wait_under m.indices x.kind (literals x.right) w (all_got (LineUnder m.indices) m.lines n x fit.lines at) is
 
 made_fits : (m : Model) {x : Line} → Fit m → Makes m x → kind_under m.indices x.kind ≡ true
 made_fits m fit (resolved a b x y l kind at_a at_b is p q) =
-    joint_under m.indices is (line_all (LineUnder m.indices) m.lines a x fit.lines at_a) (line_all (LineUnder m.indices) m.lines b y fit.lines at_b)
+    joint_under m.indices is (all_got (LineUnder m.indices) m.lines a x fit.lines at_a) (all_got (LineUnder m.indices) m.lines b y fit.lines at_b)
 made_fits m fit (rewritten n x at p q) = refl
 made_fits m fit (entered n x w p at is place) = refl
 made_fits m fit (stayed n x w p at is place) = line_wait_under m n x w fit at is
 made_fits m fit (met_now n w i x c at is) = refl
 made_fits m fit (met_later n w p c place) =
-    ap (λ (v : Wait). scope_under m.indices v.scope) c.same ∙ loop_all (LoopUnder m.indices) m.loops n c.loop fit.loops c.there
+    ap (λ (v : Wait). scope_under m.indices v.scope) c.same ∙ all_got (LoopUnder m.indices) m.loops n c.loop fit.loops c.there
 
 steps_fit : (m : Model) {R : Type 0} {left : Model} → Fit m → Steps m R left → Fit left
 steps_fit m fit nothing = fit

@@ -21,12 +21,12 @@ use Rattle.truth.specs.Truth.{Keeps}
 use Rattle.truth.specs.Decided.{Fits}
 use Rattle.calls.specs.declared.waits.Wait.{Wait}
 use Rattle.calls.specs.Calls.{ended, is_over, line_at, over_at, unmet_row}
-use Rattle.calls.specs.Loops.{Row, add_row, at_loop, first_unmet, is_closed, is_open, loop_at, meets, met, open_here, opening, row_at, row_right, some_open, standing_as, supposed, unmet_from, waited_by}
+use Rattle.calls.specs.Loops.{Row, add_row, at_loop, first_unmet, is_closed, is_open, loop_at, meets, met, open_here, opening, row_right, some_open, standing_as, supposed, unmet_from, waited_by}
 use Rattle.calls.specs.Models.{Loop, Model, Standing, opened, closed, dropped}
 use Rattle.calls.specs.Waits.{and_then, place_of}
 use Rattle.calls.proofs.Concluding.{entered_true, resolved_true, rewritten_true, stayed_true}
 use Rattle.calls.proofs.Endless.{later_true, now_true}
-use Rattle.calls.proofs.Fitting.{Fit, all_at_loop, all_front, kind_fits, line_all, loop_all, scope_speaks}
+use Rattle.calls.proofs.Fitting.{Fit, all_at_loop, all_front, kind_fits, all_got, scope_speaks}
 use Rattle.calls.proofs.Joints.{Joint, start_start, start_global, global_start, global_global, global_step, step_global, step_step}
 use Rattle.calls.proofs.Stepping.{ClosedAt, Makes, resolved, rewritten, entered, stayed, met_now, met_later, Steps, nothing, rules, makes, opens, supposes, closes, drops}
 use Rattle.calls.proofs.Supposing.{ComesLine, ComesOf, Premise, RowsHold, TrueLine, kept-comes, kept-true, premise_changed, premise_opened, true_made, true_weaker}
@@ -51,11 +51,6 @@ all_last P (y ∷ ys) x all = all_last P ys x all.1
 all_both : {X : Type 0} (P Q : X → Type 0) (xs : List X) → All P xs → All Q xs → All (λ x. P x × Q x) xs
 all_both P Q [] all more = tt
 all_both P Q (x ∷ xs) all more = ((all.0, more.0), all_both P Q xs all.1 more.1)
-
-row_all : (P : List Literal → Type 0) (ps : List (List Literal)) (n : ℕ) (p : List Literal) → All P ps → row_at ps n ≡ Some p → P p
-row_all P [] n p all at = absurd (none-some _ at)
-row_all P (q ∷ qs) zero p all at = subst P (same_Some _ _ at) all.0
-row_all P (q ∷ qs) (suc n) p all at = row_all P qs n p all.1 at
 
 -- ---- loops by number
 
@@ -250,19 +245,19 @@ module _ (sys : System) (ws : List Wait) (wf : WellFormed sys) (m : Model) (indi
       (All-weaker (λ x. kind_under m.indices x.kind ≡ true) (λ x. Fits sys x.kind) (λ x. kind_fits sys m.indices x.kind indices) m.lines fit.lines)
 
   true_at : (n : ℕ) (x : Line) → line_at m.lines n ≡ Some x → TrueFit x
-  true_at n x at = line_all TrueFit m.lines n x true_fits at
+  true_at n x at = all_got TrueFit m.lines n x true_fits at
 
   comes_at : (n : ℕ) (x : Line) → line_at m.lines n ≡ Some x → ComesLine sys ws x
-  comes_at n x at = line_all (ComesLine sys ws) m.lines n x inv.comings at
+  comes_at n x at = all_got (ComesLine sys ws) m.lines n x inv.comings at
 
   loop_low : (n : ℕ) (z : Loop) → loop_at m.loops n ≡ Some z → LowGoal z
-  loop_low n z at = loop_all LowGoal m.loops n z inv.goals at
+  loop_low n z at = all_got LowGoal m.loops n z inv.goals at
 
   loop_speaks : (n : ℕ) (z : Loop) → loop_at m.loops n ≡ Some z → Speaks sys z.scope
-  loop_speaks n z at = scope_speaks sys m.indices z.scope indices (loop_all (λ y. scope_under m.indices y.scope ≡ true) m.loops n z fit.loops at)
+  loop_speaks n z at = scope_speaks sys m.indices z.scope indices (all_got (λ y. scope_under m.indices y.scope ≡ true) m.loops n z fit.loops at)
 
   row_met : (n : ℕ) (w : Row) (c : ClosedAt m.loops n w) → met c.loop.scope n w.literals m.lines ≡ true
-  row_met n w c = row_all (λ p. met c.loop.scope n p m.lines ≡ true) c.loop.rows c.place w.literals (inv.rows_met n c.loop c.there c.over) c.among
+  row_met n w c = all_got (λ p. met c.loop.scope n p m.lines ≡ true) c.loop.rows c.place w.literals (inv.rows_met n c.loop c.there c.over) c.among
 
   made_true : {x : Line} → Makes m x → TrueLine sys ws m.loops x
   made_true (resolved a b x y l kind at_a at_b is p q) =

@@ -1,5 +1,5 @@
 -- The calls, what stands against each in order, what each answers and what it leaves. Assumes nothing.
-use Rattle.std.specs.Prelude.{ℕ, zero, suc, ◌+◌, ◌*◌, Bool, true, false, cond, not, ◌&&◌, ◌||◌, List, [], ◌∷◌, ◌++◌, length, is_some, Some, None, Option, nat_le, nat_lt}
+use Rattle.std.specs.Prelude.{ℕ, zero, suc, ◌+◌, ◌*◌, Bool, true, false, cond, not, ◌&&◌, ◌||◌, List, [], ◌∷◌, ◌++◌, length, is_some, Some, None, Option, nat_le, nat_lt, slice_get}
 use Rattle.std.specs.Option.{option_map}
 use Rattle.clauses.specs.declared.lines.Line.{Line}
 use Rattle.clauses.specs.declared.literals.Literal.{Literal}
@@ -75,9 +75,7 @@ line_waitless ws (Some x) = waitless ws (wait_of x)
 
 -- the line of a number
 abbrev pub line_at : List Line → ℕ → Option Line
-line_at [] n = None
-line_at (x ∷ xs) zero = Some x
-line_at (x ∷ xs) (suc n) = line_at xs n
+line_at = slice_get
 
 -- a loop that is not open
 abbrev pub is_over : Standing → Bool

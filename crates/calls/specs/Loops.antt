@@ -1,5 +1,5 @@
 -- Loops by their numbers, their rows, and when a row is met. Assumes nothing.
-use Rattle.std.specs.Prelude.{ℕ, zero, suc, ◌+◌, Bool, true, false, cond, ◌&&◌, ◌||◌, List, [], ◌∷◌, ◌++◌, length, Some, None, Option, ◌==◌}
+use Rattle.std.specs.Prelude.{ℕ, zero, suc, ◌+◌, Bool, true, false, cond, ◌&&◌, ◌||◌, List, [], ◌∷◌, ◌++◌, length, Some, None, Option, ◌==◌, slice_get}
 use Rattle.std.specs.Option.{option_map}
 use Rattle.ordered.specs.Lists.{within}
 use Rattle.clauses.specs.declared.kinds.Kind.{Kind}
@@ -29,9 +29,7 @@ is_closed closed = true
 is_closed dropped = false
 
 abbrev pub loop_at : List Loop → ℕ → Option Loop
-loop_at [] n = None
-loop_at (x ∷ xs) zero = Some x
-loop_at (x ∷ xs) (suc n) = loop_at xs n
+loop_at = slice_get
 
 -- the loop of this number is open
 abbrev pub open_here : List Loop → ℕ → Bool
@@ -79,9 +77,7 @@ abbrev pub waited_by : Loop → Wait
 waited_by x = record { scope = x.scope; goal = x.goal }
 
 abbrev pub row_at : List (List Literal) → ℕ → Option (List Literal)
-row_at [] n = None
-row_at (p ∷ ps) zero = Some p
-row_at (p ∷ ps) (suc n) = row_at ps n
+row_at = slice_get
 
 abbrev pub row_of : ℕ → Loop → Option Row
 row_of r x = cond (is_closed x.standing) (option_map (λ p. record { wait = waited_by x; literals = p }) (row_at x.rows r)) None
