@@ -1,9 +1,8 @@
 -- Ascending lists: the head and the rest, and by places. Assumes nothing.
-use Rattle.std.proofs.Common.{◌≡◌, ℕ, zero, suc, ◌-◌, ◌<◌, true, false, List, [], ◌∷◌, length, get_or, Decides, Ordering, Less, Equal, Greater, sym, refl, ap, subst, add-one, arith}
+use Rattle.std.proofs.Common.{◌≡◌, ℕ, zero, suc, ◌<◌, Bool, true, false, List, [], ◌∷◌, length, get_or, Ordering, Less, Equal, Greater, sym, refl, ap, add-one, arith}
 use Rattle.std.specs.Cmp.{IsTotalOrder}
 use Rattle.std.specs.Ordering.{is_eq, is_lt}
-use Rattle.std.specs.List.{AllAdjacentBelow, AllByRecursion as All}
-use Rattle.std.proofs.lemmas.List.Elements.{pair_read}
+use Rattle.std.specs.List.{IsAllAdjacentAnswer, AllByRecursion as All}
 use Rattle.std.proofs.ByRecursion.{All-get_or, All-weaker}
 use Rattle.std.proofs.lemmas.Bool.{false≢true, and_parts, and_from, and_left, and_right}
 use Rattle.ordered.specs.Lists.{ascending}
@@ -47,20 +46,6 @@ module _ {X : Type 0} (cmp : X → X → Ordering) where
       and_from (is_lt (cmp x y)) (ascending cmp (y ∷ ys)) (ap is_lt (h 0 x (omega arith)))
       (from_next (y ∷ ys) (λ k d lt. h (suc k) d (omega arith)))
 
-  pub ascending_from_neighbours : (xs : List X) → AllAdjacentBelow (λ x y. cmp x y ≡ Less) xs (length xs) → ascending cmp xs ≡ true
-  ascending_from_neighbours xs h = from_next xs (λ k d lt. rw add-one at (h k d (omega arith)))
-
-  to_next : (xs : List X) (k : ℕ) (d : X) → ascending cmp xs ≡ true → suc k < length xs → cmp (get_or xs k d) (get_or xs (suc k) d) ≡ Less
-  to_next [] k d h lt = absurd (omega arith)
-  to_next (x ∷ []) k d h lt = absurd (omega arith)
-  to_next (x ∷ y ∷ ys) zero d h lt = ascending_next x y ys h
-  to_next (x ∷ y ∷ ys) (suc k) d h lt = to_next (y ∷ ys) k d (ascending_tail x (y ∷ ys) h) (omega arith)
-
-  -- a list ascends exactly if each place is below the next
-  pub ascending_decides : (xs : List X) → Decides (ascending cmp xs) (AllAdjacentBelow (λ x y. cmp x y ≡ Less) xs (length xs))
-  ascending_decides xs =
-      (λ h k d lt. subst (λ n. cmp (get_or xs k d) (get_or xs n d) ≡ Less) (sym (add-one k)) (to_next xs k d h (omega arith)), ascending_from_neighbours xs)
-
   from_break : (xs : List X) (k : ℕ) (d : X) → suc k < length xs → is_lt (cmp (get_or xs k d) (get_or xs (suc k) d)) ≡ false → ascending cmp xs ≡ false
   from_break [] k d lt h = absurd (omega arith)
   from_break (x ∷ []) k d lt h = absurd (omega arith)
@@ -68,13 +53,16 @@ module _ {X : Type 0} (cmp : X → X → Ordering) where
   from_break (x ∷ y ∷ ys) (suc k) d lt h =
       and_right (is_lt (cmp x y)) (ascending cmp (y ∷ ys)) (from_break (y ∷ ys) k d (omega arith) h)
 
-  -- one place i at which the element before, x, is not below the one there, y, is enough
-  pub not_ascending_at : (xs : List X) (i : ℕ) (x y : X) → 0 < i → i < length xs → x ≡ get_or xs (i - 1) x → y ≡ get_or xs i y → (cmp x y ≡ Less → ⊥) → ascending cmp xs ≡ false
-  not_ascending_at xs i x y pos lt is_x is_y n =
-      let back : suc (i - 1) ≡ i = omega arith in
-      from_break xs (i - 1) x (omega arith)
-      (subst (λ k. is_lt (cmp (get_or xs (i - 1) x) (get_or xs k x)) ≡ false) (sym back)
-      (pair_read xs (λ v w. is_lt (cmp v w) ≡ false) (i - 1) i x y (omega arith) lt is_x is_y (test_from_not_less (cmp x y) n) x))
+  some-first : (xs : List X) (k : ℕ) → k < length xs → X
+  some-first [] k lt = absurd (omega arith)
+  some-first (x ∷ xs) k lt = x
+
+  -- what the answers at each element and the next say of the whole list
+  pub ascending_answer : (xs : List X) (r : Bool) → IsAllAdjacentAnswer (λ x y b. b ≡ is_lt (cmp x y)) xs r → r ≡ ascending cmp xs
+  ascending_answer xs true h = sym (from_next xs (λ k d lt. less_from_test _ (sym (rw add-one at (h k d (omega arith))))))
+  ascending_answer xs false h =
+      let x = some-first xs h.0 (omega (arith, h.1)) in
+      sym (from_break xs h.0 x (omega (arith, h.1)) (sym (rw add-one at (h.2 x))))
 
 -- ---- at a lawful order
 

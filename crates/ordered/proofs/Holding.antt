@@ -1,18 +1,17 @@
 -- What a list holds and where, what a binary search then answers, and that what ascending lists hold tells them apart. Assumes nothing.
-use Rattle.std.proofs.Common.{◌≡◌, ℕ, zero, suc, ◌+◌, ◌<◌, ◌≤◌, Bool, true, false, cond, ◌&&◌, ◌||◌, List, [], ◌∷◌, length, get_or, drop, is_some, IfSome, IfOk, Some, None, Ok, Err, Decides, Option, Result, Ordering, Less, Equal, Greater, sym, refl, ap, ◌∙◌, ⊎_elim, arith, MatchResult}
+use Rattle.std.proofs.Common.{◌≡◌, ℕ, zero, suc, ◌+◌, ◌<◌, ◌≤◌, Bool, true, false, cond, ◌&&◌, ◌||◌, List, [], ◌∷◌, length, get_or, is_some, IfSome, IfOk, Some, None, Ok, Err, Decides, Option, Result, Ordering, Less, Equal, Greater, sym, refl, ap, ◌∙◌, ⊎_elim, arith, MatchResult}
 use Rattle.std.specs.Cmp.{IsTotalOrder, alike_right}
 use Rattle.std.specs.Option.{option_map}
 use Rattle.std.specs.Ordering.{is_eq, is_lt, ordering_index, ordering_reverse}
-use Rattle.std.specs.List.{HoldsAt, AllByRecursion as All}
-use Rattle.std.specs.List.Sorted.{IsBinarySearchResult, IsPartitionPoint, IsNonDecreasingBy}
+use Rattle.std.specs.List.{HoldsAt, list_all, AllByRecursion as All}
+use Rattle.std.specs.List.Sorted.{IsBinarySearchResult, IsPartitionPoint, IsPartitionedBy, IsNonDecreasingBy}
 use Rattle.std.specs.Result.{result_ok}
 use Rattle.std.proofs.ByRecursion.{All-from_get_or, All-weaker, Decides-by_and}
-use Rattle.std.proofs.lemmas.List.{at_drop_more}
 use Rattle.std.proofs.lemmas.List.Sorted.{searchable_from_sorted}
-use Rattle.std.proofs.lemmas.Bool.{false≢true, cases_Bool, cases_lt, cases_order, cond-true, cond-false, or_from, or_left}
+use Rattle.std.proofs.lemmas.Bool.{false≢true, cases_Bool, cases_lt, cond-true, cond-false, or_from, or_left}
 use Rattle.std.proofs.lemmas.Bool.Decides.{Decides-by_or}
 use Rattle.ordered.specs.Lists.{ascending, count_below, holds, place, within}
-use Rattle.ordered.proofs.Ascending.{equal_from_test, ascending_head, ascending_places, ascending_tail}
+use Rattle.ordered.proofs.Ascending.{equal_from_test, less_from_test, ascending_head, ascending_places, ascending_tail}
 
 -- ---- at any comparison
 
@@ -27,10 +26,10 @@ module _ {X : Type 0} (cmp : X → X → Ordering) where
   within_decides xs outer =
       Decides-by_and (holds cmp outer) (λ x. holds cmp outer x ≡ true) (λ ys. within cmp ys outer) (λ x. (λ e. e, λ e. e)) refl (λ _ _. refl) xs
 
-  -- what is left of a list, from i on, is within another exactly if x, the element there, is held and the rest is within it
-  pub within_more : (xs outer : List X) (i : ℕ) (x : X) (b : Bool) → i < length xs → x ≡ get_or xs i x → holds cmp outer x ≡ b → within cmp (drop i xs) outer ≡ (b && within cmp (drop (i + 1) xs) outer)
-  within_more xs outer i x b lt is held =
-      at_drop_more (λ ys. within cmp ys outer) xs i x lt ∙ ap (λ t. t && within cmp (drop (i + 1) xs) outer) (ap (holds cmp outer) (sym is) ∙ held)
+  -- a list is within another where that holds each of its elements
+  pub within_all : (xs outer : List X) → list_all (holds cmp outer) xs ≡ within cmp xs outer
+  within_all [] outer = refl
+  within_all (x ∷ xs) outer = ap (λ t. holds cmp outer x && t) (within_all xs outer)
 
   -- a place is found exactly where the list holds x
   pub place_holds : (xs : List X) (x : X) → is_some (place cmp xs x) ≡ holds cmp xs x
@@ -85,28 +84,20 @@ module _ {X : Type 0} {R : X → X → Ordering} (o : IsTotalOrder R) where
       (λ k l. ⊎_elim (λ low. ap is_eq (parts.0 k x (omega arith) low)) (λ high. ap is_eq (parts.1 k x high l)) (cases_lt k i))))
 
 -- a place before which all are below x, and from which on none is, counts what is below x
-count_parted : {X : Type 0} (cmp : X → X → Ordering) (xs : List X) (x : X) (i : ℕ) → i ≤ length xs → ((k : ℕ) → k < i → is_lt (cmp (get_or xs k x) x) ≡ true) → ((k : ℕ) → i ≤ k → k < length xs → is_lt (cmp (get_or xs k x) x) ≡ false) → i ≡ count_below cmp xs x
-count_parted cmp [] x i end low high = omega arith
-count_parted cmp (y ∷ ys) x zero end low high =
-    count_parted cmp ys x zero (omega arith) (λ k l. absurd (omega arith)) (λ k l m. high (suc k) (omega arith) (omega arith))
-    ∙ sym (cond-false (is_lt (cmp y x)) (suc (count_below cmp ys x)) (count_below cmp ys x) (high zero (omega arith) (omega arith)))
-count_parted cmp (y ∷ ys) x (suc i) end low high =
-    ap suc (count_parted cmp ys x i (omega arith) (λ k l. low (suc k) (omega arith)) (λ k l m. high (suc k) (omega arith) (omega arith)))
-    ∙ sym (cond-true (is_lt (cmp y x)) (suc (count_below cmp ys x)) (count_below cmp ys x) (low zero (omega arith)))
+pub count_parted : {X : Type 0} (cmp : X → X → Ordering) (xs : List X) (x : X) (i : ℕ) → i ≤ length xs → IsPartitionPoint (λ y. is_lt (cmp y x) ≡ true) (λ y. is_lt (cmp y x) ≡ false) xs i → i ≡ count_below cmp xs x
+count_parted cmp [] x i end parted = omega arith
+count_parted cmp (y ∷ ys) x zero end parted =
+    count_parted cmp ys x zero (omega arith) (λ k d l m. absurd (omega arith), λ k d l m. parted.1 (suc k) d (omega arith) (omega arith))
+    ∙ sym (cond-false (is_lt (cmp y x)) (suc (count_below cmp ys x)) (count_below cmp ys x) (parted.1 zero x (omega arith) (omega arith)))
+count_parted cmp (y ∷ ys) x (suc i) end parted =
+    ap suc (count_parted cmp ys x i (omega arith) (λ k d l m. parted.0 (suc k) d (omega arith) (omega arith), λ k d l m. parted.1 (suc k) d (omega arith) (omega arith)))
+    ∙ sym (cond-true (is_lt (cmp y x)) (suc (count_below cmp ys x)) (count_below cmp ys x) (parted.0 zero x (omega arith) (omega arith)))
 
-module _ {X : Type 0} {R : X → X → Ordering} (o : IsTotalOrder R) where
-  -- where the list ascends, a binary search tells how many elements are below x
-  pub lower_found : (xs : List X) (x : X) (i : ℕ) → i < length xs → HoldsAt (λ y. R y x ≡ Equal) xs i → ascending R xs ≡ true → i ≡ count_below R xs x
-  lower_found xs x i lt h asc =
-      count_parted R xs x i (omega arith)
-      (λ k l. ap is_lt (sym (alike_right o _ x _ (h x)) ∙ ascending_places o xs k i x asc l lt))
-      (λ k l m. ⊎_elim (λ e. ap (λ j. is_lt (R (get_or xs j x) x)) (sym e) ∙ ap is_lt (h x))
-      (⊎_elim (λ after. ap is_lt (sym (alike_right o _ x _ (h x)) ∙ o.antisymm _ _ ∙ ap ordering_reverse (ascending_places o xs i k x asc after m))) (λ under. absurd (omega arith))) (cases_order i k))
-
-  pub lower_missed : (xs : List X) (x : X) (i : ℕ) → i ≤ length xs → (IsNonDecreasingBy (λ y. ordering_index (R y x)) xs → IsPartitionPoint (λ y. R y x ≡ Less) (λ y. R y x ≡ Greater) xs i) → ascending R xs ≡ true → i ≡ count_below R xs x
-  lower_missed xs x i lt h asc =
-      let parts = h (rising o xs x asc) in
-      count_parted R xs x i lt (λ k l. ap is_lt (parts.0 k x (omega arith) l)) (λ k l m. ap is_lt (parts.1 k x l m))
+-- in an ascending list, what is before an element below x is below x
+pub parted_below : {X : Type 0} {R : X → X → Ordering} (o : IsTotalOrder R) (xs : List X) (x : X) → ascending R xs ≡ true → IsPartitionedBy (λ y. is_lt (R y x)) xs
+parted_below {R = R} o xs x asc i j d le lt below =
+    ⊎_elim (λ before. ap is_lt (o.trans _ _ x (ascending_places o xs i j d asc before lt) (less_from_test _ below)))
+    (λ same. ap (λ k. is_lt (R (get_or xs k d) x)) (omega arith) ∙ below) (cases_lt i j)
 
 -- ---- what ascending lists hold tells them apart
 

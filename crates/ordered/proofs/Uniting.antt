@@ -1,13 +1,15 @@
 -- The union of two lists: what it holds, that it ascends, and its first element. Assumes nothing.
-use Rattle.std.proofs.Common.{◌≡◌, ℕ, suc, ◌+◌, ◌<◌, ◌≤◌, Bool, true, false, cond, ◌||◌, leb, List, [], ◌∷◌, ◌++◌, length, take, set, is_some, Some, None, Ordering, Less, Equal, Greater, sym, refl, ap, ◌∙◌, subst, ⊎_elim, append_assoc, arith}
+use Rattle.std.proofs.Common.{Bor, Option, ltb, ◌≡◌, ℕ, ◌+◌, ◌<◌, ◌≤◌, Bool, true, false, cond, ◌||◌, leb, List, [], ◌∷◌, ◌++◌, length, take, set, is_some, Some, None, Ordering, Less, Equal, Greater, sym, refl, ap, ◌∙◌, subst, append-nil, append_assoc, arith}
 use Rattle.std.specs.Cmp.{IsTotalOrder, alike_right}
 use Rattle.std.specs.Ordering.{is_eq, is_lt, ordering_reverse}
 use Rattle.std.specs.List.{AllByRecursion as All}
 use Rattle.std.proofs.ByRecursion.{All-weaker}
-use Rattle.std.proofs.lemmas.List.{length-take-le, nil_from_length, take_more_set}
-use Rattle.std.proofs.lemmas.Bool.{false≢true, and_from, cases_lt, cond-true, cond-false, le-leb, lt-leb}
+use Rattle.std.proofs.lemmas.List.{length-append, length-take-le, nil_from_length, take_more_set}
+use Rattle.std.proofs.lemmas.Bool.{and_from, cond-true, cond-false, le-leb, le-ltb, lt-leb, lt-ltb}
 use Rattle.ordered.specs.Lists.{ascending, holds}
-use Rattle.ordered.specs.Unions.{insert, union, Leads, fitting}
+use Rattle.ordered.specs.Unions.{insert, union, Leads, Walks, fitting}
+use Rattle.ordered.specs.declared.Union.{Union}
+use Rattle.std.specs.Iterator.{SkipsThenYields, Yields}
 use Rattle.ordered.proofs.Ascending.{ascending_cons, ascending_head, ascending_tail}
 
 or_assoc : (p q r : Bool) → ((p || q) || r) ≡ (p || (q || r))
@@ -170,14 +172,35 @@ module _ {X : Type 0} {R : X → X → Ordering} (o : IsTotalOrder R) where
 -- ---- one element on
 
 module _ {X : Type 0} (cmp : X → X → Ordering) (a b : List X) (x : X) (c d : List X) (leads : Leads cmp a b x c d) where
-  pub leads_length : length (union cmp a b) ≡ suc (length (union cmp c d))
-  leads_length = ap length leads.0
-
   -- one more element is written at i
   pub leads_written : (all out : List X) (i : ℕ) → i < length out → all ≡ take i out ++ union cmp a b → all ≡ take (i + 1) (set out i x) ++ union cmp c d
   leads_written all out i lt e =
       e ∙ ap (λ l. take i out ++ l) leads.0 ∙ sym (append_assoc (take i out) (x ∷ []) (union cmp c d))
       ∙ ap (λ l. l ++ union cmp c d) (sym (take_more_set out i x lt))
+
+-- ---- a walk over the union
+
+module _ {X : Type 0} {R : X → X → Ordering} (o : IsTotalOrder R) where
+  abbrev pub steps : Union X → Option (Bor X) → Union X → Type 0
+  steps s r t = Walks R s.a.now s.b.now r t.a.now t.b.now
+
+  -- the elements that came and those that are left make up the union
+  pub walked : (xs : List (Bor X)) (s t : Union X) → Yields steps s xs t → ascending R s.a.now ≡ true → ascending R s.b.now ≡ true
+      → (length (union R s.a.now s.b.now) ≡ length xs + length (union R t.a.now t.b.now)) × (ascending R t.a.now ≡ true) × (ascending R t.b.now ≡ true)
+  walked [] s t y h k = subst (λ u. (length (union R s.a.now s.b.now) ≡ 0 + length (union R u.a.now u.b.now)) × (ascending R u.a.now ≡ true) × (ascending R u.b.now ≡ true)) y (omega arith, h, k)
+  walked (x ∷ xs) s t (j, step, y) h k =
+      let next = step o h k in
+      let rest = walked xs j t y next.1 next.2 in
+      (omega (arith, ap length next.0, rest.0), rest.1, rest.2)
+
+  -- whether there is an element past n others tells whether the union has more than n
+  pub past : (s u : Union X) (n : ℕ) (r : Option (Bor X)) → SkipsThenYields steps s n r u → ascending R s.a.now ≡ true → ascending R s.b.now ≡ true → ltb n (length (union R s.a.now s.b.now)) ≡ is_some r
+  past s u n None (xs, (t, y, end), few) h k =
+      let way = walked xs s t y h k in
+      le-ltb _ _ (omega (arith, way.0, ap length (end o way.1 way.2), few))
+  past s u n (Some x) (xs, (t, y, step), all) h k =
+      let way = walked xs s t y h k in
+      lt-ltb _ _ (omega (arith, way.0, ap length (step o way.1 way.2).0, all))
 
 -- ---- what there is room for
 
@@ -187,11 +210,16 @@ fitting_none n room h = cond-false (leb n room) (Some n) None (lt-leb n room h)
 pub fitting_some : (n room : ℕ) → n ≤ room → fitting n room ≡ Some n
 fitting_some n room h = cond-true (leb n room) (Some n) None (le-leb n room h)
 
--- an answer says that there is room
-pub room_from_fitting : (n room m : ℕ) → Some m ≡ fitting n room → n ≤ room
-room_from_fitting n room m e = ⊎_elim (λ h. absurd (false≢true (sym (ap is_some (e ∙ fitting_none n room h))))) (λ h. h) (cases_lt room n)
+-- what was written, n elements of `out`, and what is left make up the whole
+module _ {X : Type 0} (all out left : List X) (n : ℕ) (within : n ≤ length out) (made : all ≡ take n out ++ left) where
+  pub none_left : length all ≤ n → left ≡ []
+  none_left h = nil_from_length left (omega (arith, ap length made ∙ length-append (take n out) left, length-take-le n out within))
 
--- a list that was written as a front of n elements has n elements
-pub fitting_written : {X : Type 0} (all out : List X) (n room : ℕ) → n ≤ length out → length all ≤ room → take n out ≡ all → Some n ≡ fitting (length all) room
-fitting_written all out n room within fits e =
-    ap Some (sym (length-take-le n out within) ∙ ap length e) ∙ sym (fitting_some (length all) room fits)
+  -- where nothing is left, all of it is written
+  pub all_written : left ≡ [] → take n out ≡ all
+  all_written none = sym (made ∙ ap (λ l. take n out ++ l) none ∙ append-nil (take n out))
+
+  pub all_counted : (room : ℕ) → n ≤ room → left ≡ [] → Some n ≡ fitting (length all) room
+  all_counted room h none =
+      let count : n ≡ length all = sym (length-take-le n out within) ∙ ap length (all_written none) in
+      ap Some count ∙ sym (fitting_some (length all) room (omega arith))

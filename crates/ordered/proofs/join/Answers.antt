@@ -1,35 +1,62 @@
-use Rattle.std.proofs.Common.{◌≡◌, ◌≤◌, length, take, drop, IfSome, sym, refl, subst, arith, MatchOption}
-use Rattle.ordered.specs.Unions.{fitting, union}
-use Rattle.ordered.proofs.Uniting.{fitting_written, room_from_fitting, union_ascends, union_holds}
+use Rattle.std.proofs.Common.{true, [], ◌≡◌, ◌+◌, List, ◌++◌, length, take, drop, sym, ap, ◌∙◌, arith}
+use Rattle.std.proofs.lemmas.Bool.{ltb-false, ltb-true}
+use Rattle.std.proofs.lemmas.List.{drop-drop, drop-set-lt, take-set}
+use Rattle.std.specs.Cmp.{IsTotalOrder}
+use Rattle.ordered.specs.Lists.{ascending}
+use Rattle.ordered.specs.Unions.{union}
+use Rattle.ordered.proofs.Uniting.{all_counted, all_written, fitting_none, leads_written, none_left, past}
+use Rattle.ordered.proofs.join.Given as given
 use Rattle.ordered.proofs.join.Goals as goal
+use Rattle.ordered.proofs.join.Goals.{After-loop-count}
 
-pub returns-in_err-joined_len : goal.returns-in_err-joined_len
-returns-in_err-joined_len g c =
-    let a = c.args.a.now in
-    let b = c.args.b.now in
-    let out = c.args.out.now in
-    let none = sym c.from_residual.ensures in
-    record {
-      rest = subst (λ r. MatchOption r (out ≡ out) (λ n. (n ≤ length out) × (drop n out ≡ drop n out))) none refl;
-      counts = λ o h k. subst (λ r. r ≡ fitting (length (union g.T.Ord.cmp a b)) (length out)) none (c.in_err-joined_len.ensures o h k);
-      written = λ o h k. subst (λ r. IfSome r (λ n. take n out ≡ union g.T.Ord.cmp a b)) none tt;
-      sorted = λ o k. union_ascends o a b k;
-      members = λ o x. union_holds o a b x;
-    }
+pub returns-then-is_some-clause-counts : goal.returns-then-is_some-clause-counts
+returns-then-is_some-clause-counts g c = λ o h k.
+    sym (fitting_none _ _ (ltb-true _ _ (past o (record { a = c.args.a; b = c.args.b }) c.nth.new.self _ c.nth.result c.nth.ensures.ran h k ∙ sym c.is_some.ensures ∙ c.if-is_some.true)))
 
-pub returns : goal.returns
-returns g c =
-    let a = c.args.a.now in
-    let b = c.args.b.now in
-    let out = c.args.out.now in
-    let told = c.write_joined.ensures in
-    record {
-      rest = (told.within, told.rest);
-      counts = λ o h k.
-          let fits = room_from_fitting (length (union g.T.Ord.cmp a b)) (length out) c.in_ok-joined_len.field-0 (c.in_ok-joined_len.ensures o h k) in
-          fitting_written (union g.T.Ord.cmp a b) c.write_joined.new.out c.write_joined.result (length out) (omega arith) fits (told.written o h k fits);
-      written = λ o h k.
-          told.written o h k (room_from_fitting (length (union g.T.Ord.cmp a b)) (length out) c.in_ok-joined_len.field-0 (c.in_ok-joined_len.ensures o h k));
-      sorted = λ o k. union_ascends o a b k;
-      members = λ o x. union_holds o a b x;
-    }
+pub returns-in_default-clause-counts : goal.returns-in_default-clause-counts
+returns-in_default-clause-counts g c = λ o h k.
+    let so = c.loop-count.invariant.written o h k in
+    all_counted _ c.loop-count.out _ c.loop-count.count (omega arith) so.0 (length c.args.out.now) (omega arith) (c.in_default.ensures.steps o so.1 so.2)
+
+pub returns-in_default-clause-written : goal.returns-in_default-clause-written
+returns-in_default-clause-written g c = λ o h k.
+    let so = c.loop-count.invariant.written o h k in
+    take-set c.loop-count.out c.loop-count.count _ ∙ all_written _ c.loop-count.out _ c.loop-count.count (omega arith) so.0 (c.in_default.ensures.steps o so.1 so.2)
+
+pub loop-count-preserved : goal.loop-count-preserved
+loop-count-preserved g c = record {
+  rest = drop-set-lt (c.loop-count.count + 1) c.loop-count.out c.loop-count.count c.in-Some.first.now (omega arith)
+      ∙ sym (drop-drop 1 c.loop-count.count c.loop-count.out) ∙ ap (drop 1) c.loop-count.invariant.rest ∙ drop-drop 1 c.loop-count.count c.args.out.now;
+  written = λ o h k.
+      let so = c.loop-count.invariant.written o h k in
+      let next = c.in-Some.ensures.steps o so.1 so.2 in (
+        leads_written g.T.Ord.cmp c.loop-count.union.a.now c.loop-count.union.b.now c.in-Some.first.now c.next.new.self.a.now c.next.new.self.b.now next
+            (union g.T.Ord.cmp c.args.a.now c.args.b.now) c.loop-count.out c.loop-count.count (omega arith) so.0,
+        next.1,
+        next.2,
+      );
+}
+
+-- every place was written, and there is nothing past them
+module _ (g : given.Over) (c : After-loop-count g) (o : IsTotalOrder g.T.Ord.cmp) (h : ascending g.T.Ord.cmp c.args.a.now ≡ true) (k : ascending g.T.Ord.cmp c.args.b.now ≡ true) where
+  abbrev all : List g.row.T.Denot
+  all = union g.T.Ord.cmp c.args.a.now c.args.b.now
+
+  abbrev left : List g.row.T.Denot
+  left = union g.T.Ord.cmp c.loop-count.union.a.now c.loop-count.union.b.now
+
+  made : all ≡ take (length c.loop-count.out) c.loop-count.out ++ left
+  made = (c.loop-count.invariant.written o h k).0 ∙ ap (λ n. take n c.loop-count.out ++ left) (omega arith)
+
+  none : left ≡ []
+  none =
+      none_left all c.loop-count.out left (length c.loop-count.out) (omega arith) made
+      (omega (arith, ltb-false _ _ (past o (record { a = c.args.a; b = c.args.b }) c.nth.new.self _ c.nth.result c.nth.ensures.ran h k ∙ sym c.is_some.ensures ∙ c.if-is_some.false)))
+
+pub returns-clause-counts : goal.returns-clause-counts
+returns-clause-counts g c = λ o h k.
+    all_counted _ c.loop-count.out _ (length c.loop-count.out) (omega arith) (made g c o h k) (length c.args.out.now) (omega arith) (none g c o h k)
+
+pub returns-clause-written : goal.returns-clause-written
+returns-clause-written g c = λ o h k.
+    all_written _ c.loop-count.out _ (length c.loop-count.out) (omega arith) (made g c o h k) (none g c o h k)

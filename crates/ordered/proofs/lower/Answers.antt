@@ -1,19 +1,11 @@
-use Rattle.std.proofs.Common.{arith}
-use Rattle.ordered.proofs.Holding.{lower_found, lower_missed}
+use Rattle.std.proofs.Common.{rules}
+use Rattle.std.specs.Ordering.{is_lt}
+use Rattle.std.proofs.lemmas.Fn.{always_returns_same}
+use Rattle.ordered.proofs.Holding.{count_parted, parted_below}
 use Rattle.ordered.proofs.lower.Goals as goal
 
-pub returns-in-Ok : goal.returns-in-Ok
-returns-in-Ok g c =
-    let told = c.in-Ok.ensures in
-    record {
-      within = omega (arith, told.bound);
-      is = λ o asc. lower_found o _ _ _ told.bound told.position asc;
-    }
-
-pub returns-in-Err : goal.returns-in-Err
-returns-in-Err g c =
-    let told = c.in-Err.ensures in
-    record {
-      within = told.bound;
-      is = λ o asc. lower_missed o _ _ _ told.bound told.position asc;
-    }
+pub returns-clause-is : goal.returns-clause-is
+returns-clause-is g c = λ o asc.
+    let below = λ (x : g.row.T.Denot). is_lt (g.T.Ord.cmp x c.args.wanted.now) in
+    count_parted g.T.Ord.cmp c.args.items.now c.args.wanted.now c.partition_point.result c.partition_point.ensures.bound
+    (c.partition_point.ensures.partitioned below (always_returns_same _ _ _ (λ x r f' k. search rules)) (parted_below o c.args.items.now c.args.wanted.now asc))
