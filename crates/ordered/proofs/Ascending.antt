@@ -1,10 +1,10 @@
 -- Ascending lists: the head and the rest, and by places. Assumes nothing.
-use Rattle.std.proofs.Common.{◌≡◌, ℕ, zero, suc, ◌<◌, Bool, true, false, List, [], ◌∷◌, length, get_or, Ordering, Less, Equal, Greater, sym, refl, ap, add-one, arith}
+use Rattle.std.proofs.Common.{Decides, ◌∙◌, subst, ◌≡◌, ℕ, zero, suc, ◌<◌, Bool, true, false, List, [], ◌∷◌, length, get_or, Ordering, Less, Equal, Greater, sym, refl, ap, add-one, arith}
 use Rattle.std.specs.Cmp.{IsTotalOrder}
 use Rattle.std.specs.Ordering.{is_eq, is_lt}
-use Rattle.std.specs.List.{IsAllAdjacentAnswer, AllByRecursion as All}
+use Rattle.std.specs.List.{AllAdjacentBelow, IsAllAdjacentAnswer, AllByRecursion as All}
 use Rattle.std.proofs.ByRecursion.{All-get_or, All-weaker}
-use Rattle.std.proofs.lemmas.Bool.{false≢true, and_parts, and_from, and_left, and_right}
+use Rattle.std.proofs.lemmas.Bool.{false_from_ne_true, false≢true, and_parts, and_from}
 use Rattle.ordered.specs.Lists.{ascending}
 
 -- ---- what an answer is, from its test
@@ -46,23 +46,25 @@ module _ {X : Type 0} (cmp : X → X → Ordering) where
       and_from (is_lt (cmp x y)) (ascending cmp (y ∷ ys)) (ap is_lt (h 0 x (omega arith)))
       (from_next (y ∷ ys) (λ k d lt. h (suc k) d (omega arith)))
 
-  from_break : (xs : List X) (k : ℕ) (d : X) → suc k < length xs → is_lt (cmp (get_or xs k d) (get_or xs (suc k) d)) ≡ false → ascending cmp xs ≡ false
-  from_break [] k d lt h = absurd (omega arith)
-  from_break (x ∷ []) k d lt h = absurd (omega arith)
-  from_break (x ∷ y ∷ ys) zero d lt h = and_left (is_lt (cmp x y)) (ascending cmp (y ∷ ys)) h
-  from_break (x ∷ y ∷ ys) (suc k) d lt h =
-      and_right (is_lt (cmp x y)) (ascending cmp (y ∷ ys)) (from_break (y ∷ ys) k d (omega arith) h)
+  to_next : (xs : List X) (k : ℕ) (d : X) → ascending cmp xs ≡ true → suc k < length xs → cmp (get_or xs k d) (get_or xs (suc k) d) ≡ Less
+  to_next [] k d h lt = absurd (omega arith)
+  to_next (x ∷ []) k d h lt = absurd (omega arith)
+  to_next (x ∷ y ∷ ys) zero d h lt = ascending_next x y ys h
+  to_next (x ∷ y ∷ ys) (suc k) d h lt = to_next (y ∷ ys) k d (ascending_tail x (y ∷ ys) h) (omega arith)
 
-  some-first : (xs : List X) (k : ℕ) → k < length xs → X
-  some-first [] k lt = absurd (omega arith)
-  some-first (x ∷ xs) k lt = x
+  -- a list ascends exactly if each place is below the next
+  pub ascending_decides : (xs : List X) → Decides (ascending cmp xs) (AllAdjacentBelow (λ x y. cmp x y ≡ Less) xs (length xs))
+  ascending_decides xs = (
+    λ h k d lt. subst (λ n. cmp (get_or xs k d) (get_or xs n d) ≡ Less) (sym (add-one k)) (to_next xs k d h (omega arith)),
+    λ h. from_next xs (λ k d lt. rw add-one at (h k d (omega arith))),
+  )
 
-  -- what the answers at each element and the next say of the whole list
+  -- so the answers at each element and the next tell whether the list ascends
   pub ascending_answer : (xs : List X) (r : Bool) → IsAllAdjacentAnswer (λ x y b. b ≡ is_lt (cmp x y)) xs r → r ≡ ascending cmp xs
-  ascending_answer xs true h = sym (from_next xs (λ k d lt. less_from_test _ (sym (rw add-one at (h k d (omega arith))))))
-  ascending_answer xs false h =
-      let x = some-first xs h.0 (omega (arith, h.1)) in
-      sym (from_break xs h.0 x (omega (arith, h.1)) (sym (rw add-one at (h.2 x))))
+  ascending_answer xs true h = sym ((ascending_decides xs).1 (λ k d lt. less_from_test _ (sym (h k d lt))))
+  ascending_answer [] false h = absurd (omega (arith, h.1))
+  ascending_answer (x ∷ xs) false h =
+      sym (false_from_ne_true _ (λ up. false≢true (h.2 x ∙ ap is_lt ((ascending_decides (x ∷ xs)).0 up h.0 x h.1))))
 
 -- ---- at a lawful order
 

@@ -41,8 +41,8 @@ module _ {X : Type 0} (cmp : X → X → Ordering) where
       at false None h e = e
       at false (Some i) h e = e
 
-  pub holds_from_place : (xs : List X) (x : X) (r : Option ℕ) (b : Bool) → r ≡ place cmp xs x → is_some r ≡ b → holds cmp xs x ≡ b
-  holds_from_place xs x r b e t = sym (place_holds xs x) ∙ ap is_some (sym e) ∙ t
+  pub found_holds : (xs : List X) (x : X) (r : Option ℕ) → r ≡ place cmp xs x → is_some r ≡ holds cmp xs x
+  found_holds xs x r e = ap is_some e ∙ place_holds xs x
 
   -- no element that ties
   pub not_held : (xs : List X) (x : X) → All (λ y. is_eq (cmp y x) ≡ false) xs → holds cmp xs x ≡ false

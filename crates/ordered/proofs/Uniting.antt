@@ -146,28 +146,29 @@ module _ {X : Type 0} {R : X → X → Ordering} (o : IsTotalOrder R) where
       )
 
   -- the same of two lists p and q, by how they begin
-  module _ (p q : List X) where
-    pub leads-left : (x : X) (a : List X) → p ≡ x ∷ a → q ≡ [] → ascending R p ≡ true → ascending R q ≡ true → Leads R p q x a q
-    leads-left x a e f =
+  module _ {p q : List X} where
+    pub leads-left : {x : X} {a : List X} → p ≡ x ∷ a → q ≡ [] → ascending R p ≡ true → ascending R q ≡ true → Leads R p q x a q
+    leads-left {x} {a} e f =
         made_of (λ u v. ascending R u ≡ true → ascending R v ≡ true → Leads R u v x a v) p q (x ∷ a) [] e f (leads_first x a [] tt)
 
-    pub leads-right : (y : X) (b : List X) → p ≡ [] → q ≡ y ∷ b → ascending R p ≡ true → ascending R q ≡ true → Leads R p q y p b
-    leads-right y b e f =
+    pub leads-right : {y : X} {b : List X} → p ≡ [] → q ≡ y ∷ b → ascending R p ≡ true → ascending R q ≡ true → Leads R p q y p b
+    leads-right {y} {b} e f =
         made_of (λ u v. ascending R u ≡ true → ascending R v ≡ true → Leads R u v y u b) p q [] (y ∷ b) e f
         (λ h k. (refl, h, ascending_tail R y b k))
 
-    pub leads-less : (x y : X) (a b : List X) → p ≡ x ∷ a → q ≡ y ∷ b → R x y ≡ Less → ascending R p ≡ true → ascending R q ≡ true → Leads R p q x a q
-    leads-less x y a b e f l =
-        made_of (λ u v. ascending R u ≡ true → ascending R v ≡ true → Leads R u v x a v) p q (x ∷ a) (y ∷ b) e f (leads_below x y a b l)
+    module _ {x y : X} {a b : List X} (e : p ≡ x ∷ a) (f : q ≡ y ∷ b) where
+      pub leads-less : R x y ≡ Less → ascending R p ≡ true → ascending R q ≡ true → Leads R p q x a q
+      leads-less l =
+          made_of (λ u v. ascending R u ≡ true → ascending R v ≡ true → Leads R u v x a v) p q (x ∷ a) (y ∷ b) e f (leads_below x y a b l)
 
-    -- of two that tie, the second list's is kept
-    pub leads-equal : (x y : X) (a b : List X) → p ≡ x ∷ a → q ≡ y ∷ b → R x y ≡ Equal → ascending R p ≡ true → ascending R q ≡ true → Leads R p q y a b
-    leads-equal x y a b e f l =
-        made_of (λ u v. ascending R u ≡ true → ascending R v ≡ true → Leads R u v y a b) p q (x ∷ a) (y ∷ b) e f (leads_level x y a b l)
+      -- of two that tie, the second list's is kept
+      pub leads-equal : R x y ≡ Equal → ascending R p ≡ true → ascending R q ≡ true → Leads R p q y a b
+      leads-equal l =
+          made_of (λ u v. ascending R u ≡ true → ascending R v ≡ true → Leads R u v y a b) p q (x ∷ a) (y ∷ b) e f (leads_level x y a b l)
 
-    pub leads-greater : (x y : X) (a b : List X) → p ≡ x ∷ a → q ≡ y ∷ b → R x y ≡ Greater → ascending R p ≡ true → ascending R q ≡ true → Leads R p q y p b
-    leads-greater x y a b e f l =
-        made_of (λ u v. ascending R u ≡ true → ascending R v ≡ true → Leads R u v y u b) p q (x ∷ a) (y ∷ b) e f (leads_above x y a b l)
+      pub leads-greater : R x y ≡ Greater → ascending R p ≡ true → ascending R q ≡ true → Leads R p q y p b
+      leads-greater l =
+          made_of (λ u v. ascending R u ≡ true → ascending R v ≡ true → Leads R u v y u b) p q (x ∷ a) (y ∷ b) e f (leads_above x y a b l)
 
 -- ---- one element on
 

@@ -22,10 +22,11 @@ pub struct Pair {
 pub fn ascends<T: Ord>(items: &[T]) -> bool
     ensures { (o : IsTotalOrder T.Ord.cmp) → result ≡ ascending T.Ord.cmp items.now }
 {
-    items.is_sorted_by(|x, next| x.cmp(next).is_lt())
+    items.is_sorted_by(|x, next| x < next)
 }
 
 // Whether each pair is below the next.
+#[tactic(auto, using(crate::specs::Pairs::pair_order))]
 pub fn pairs_ascend(items: &[Pair]) -> bool
     ensures { result ≡ ascending pair_rank items.now }
 {
@@ -33,6 +34,7 @@ pub fn pairs_ascend(items: &[Pair]) -> bool
 }
 
 // Where an ascending list has the element that ties with `wanted`.
+#[tactic(auto, using(crate::proofs::Holding::found_there, crate::proofs::Holding::search_place))]
 pub fn find<T: Ord>(items: &[T], wanted: &T) -> Option<usize>
     ensures there { IfSome result (λ i. (i < length items.now) × HoldsAt (λ x. T.Ord.cmp x wanted.now ≡ Equal) items.now i) }
     ensures is { (o : IsTotalOrder T.Ord.cmp) → ascending T.Ord.cmp items.now ≡ true → result ≡ place T.Ord.cmp items.now wanted.now }
@@ -45,7 +47,7 @@ pub fn lower<T: Ord>(items: &[T], wanted: &T) -> usize
     ensures within { result ≤ length items.now }
     ensures is { (o : IsTotalOrder T.Ord.cmp) → ascending T.Ord.cmp items.now ≡ true → result ≡ count_below T.Ord.cmp items.now wanted.now }
 {
-    items.partition_point(|x| x.cmp(wanted).is_lt())
+    items.partition_point(|x| x < wanted)
 }
 
 // Whether an ascending list has each element of the other.
