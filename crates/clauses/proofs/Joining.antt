@@ -1,6 +1,7 @@
 -- Sides made from lists: what has place, what stays, and how opposites are laid in. Assumes nothing.
-use Rattle.std.proofs.Common.{◌≡◌, ℕ, suc, ◌+◌, ◌-◌, ◌<◌, ◌≤◌, Bool, true, false, cond, leb, List, [], ◌∷◌, ◌++◌, length, get_or, take, drop, set, replicate, Some, None, Less, sym, refl, ap, ◌∙◌, append_assoc, arith, eq-eqb, ne_eqb, le-leb}
-use Rattle.std.proofs.lemmas.List.{at_drop_more, drop-replicate, take-append-drop, take_at, take_more_set}
+use Rattle.std.proofs.Common.{◌≡◌, ℕ, suc, ◌+◌, ◌-◌, ◌<◌, ◌≤◌, Bool, true, false, not, cond, leb, List, [], ◌∷◌, ◌++◌, length, get_or, take, drop, set, replicate, Some, None, Less, sym, refl, ap, ◌∙◌, append_assoc, arith, le-leb}
+use Rattle.std.proofs.lemmas.List.{drop-replicate, length-append, take-append-drop, take_at, take_more}
+use Rattle.std.proofs.Math.Seq.{set-append_seam}
 use Rattle.std.specs.Ordering.{is_eq, is_lt}
 use Rattle.ordered.specs.Unions.{fitting, insert}
 use Rattle.std.specs.List.{AllByRecursion as All}
@@ -71,25 +72,40 @@ no_opposite (x ∷ xs) none = absurd (omega arith)
 pub one_fits : (x : Literal) (ys : List Literal) → length ys < 16 → side_for (insert literal_rank x ys) ≡ Some (side_of (insert literal_rank x ys))
 one_fits x ys few = side_fits (insert literal_rank x ys) (omega (arith, insert_length x ys))
 
--- the next literal stays, or it is the one that goes
-module _ (gone : Literal) (xs : List Literal) (i : ℕ) (h : i < length xs) where
-  next : without gone (drop i xs) ≡ cond (same (get_or xs i zero) gone) (without gone (drop (i + 1) xs)) (get_or xs i zero ∷ without gone (drop (i + 1) xs))
-  next = at_drop_more (without gone) xs i zero h
+-- one more literal behind the others
+pub pushed : (xs : List Literal) (x : Literal) → length xs < 16 → set (side_of xs).places (length xs) x ≡ (side_of (xs ++ x ∷ [])).places
+pushed xs x room =
+    let one_less : 16 - length xs ≡ suc (16 - length (xs ++ x ∷ [])) = omega (arith, length-append xs (x ∷ [])) in
+    ap (λ m. set (xs ++ replicate m zero) (length xs) x) one_less
+    ∙ set-append_seam xs zero (replicate (16 - length (xs ++ x ∷ [])) zero) x
+    ∙ sym (append_assoc xs (x ∷ []) (replicate (16 - length (xs ++ x ∷ [])) zero))
 
-  pub stays_on : (front : List Literal) (n : ℕ) → n < length front → ((get_or xs i zero).0 ≡ gone.0 → ⊥) → take n front ++ without gone (drop i xs) ≡ without gone xs → take (n + 1) (set front n (get_or xs i zero)) ++ without gone (drop (i + 1) xs) ≡ without gone xs
-  stays_on front n room other so =
-      let x = get_or xs i zero in
-      let more = without gone (drop (i + 1) xs) in
-      ap (λ l. l ++ more) (take_more_set front n x room)
-      ∙ append_assoc (take n front) (x ∷ []) more
-      ∙ ap (λ l. take n front ++ l) (sym (next ∙ ap (λ b. cond b more (x ∷ more)) (ne_eqb x.0 gone.0 other)))
-      ∙ so
+without-append : (gone : Literal) (xs ys : List Literal) → without gone (xs ++ ys) ≡ without gone xs ++ without gone ys
+without-append gone [] ys = refl
+without-append gone (x ∷ xs) ys = by-test (same x gone) (without-append gone xs ys)
+  where
+    by-test : (b : Bool) → without gone (xs ++ ys) ≡ without gone xs ++ without gone ys → cond b (without gone (xs ++ ys)) (x ∷ without gone (xs ++ ys)) ≡ cond b (without gone xs) (x ∷ without gone xs) ++ without gone ys
+    by-test true e = e
+    by-test false e = ap (λ l. x ∷ l) e
 
-  pub goes : (front : List Literal) (n : ℕ) → (get_or xs i zero).0 ≡ gone.0 → take n front ++ without gone (drop i xs) ≡ without gone xs → take n front ++ without gone (drop (i + 1) xs) ≡ without gone xs
-  goes front n same_number so =
-      let x = get_or xs i zero in
-      let more = without gone (drop (i + 1) xs) in
-      ap (λ l. take n front ++ l) (sym (next ∙ ap (λ b. cond b more (x ∷ more)) (eq-eqb x.0 gone.0 same_number))) ∙ so
+turned : (t b : Bool) (front back : List Literal) → b ≡ not t → cond b front back ≡ cond t back front
+turned true b front back e = ap (λ s. cond s front back) e
+turned false b front back e = ap (λ s. cond s front back) e
+
+-- the next literal stays, b, or it is the one that goes
+pub kept_more : (gone : Literal) (xs : List Literal) (i : ℕ) (b : Bool) → i < length xs → b ≡ not (same (get_or xs i zero) gone) → without gone (take i xs) ++ cond b (get_or xs i zero ∷ []) [] ≡ without gone (take (i + 1) xs)
+kept_more gone xs i b lt e =
+    let x = get_or xs i zero in
+    ap (λ ys. without gone (take i xs) ++ ys) (turned (same x gone) b (x ∷ []) [] e)
+    ∙ sym (ap (without gone) (take_more xs i zero lt) ∙ without-append gone (take i xs) (x ∷ []))
+
+pub without_length : (gone : Literal) (xs : List Literal) → length (without gone xs) ≤ length xs
+without_length gone [] = omega arith
+without_length gone (x ∷ xs) = by-test (same x gone) (without_length gone xs)
+  where
+    by-test : (b : Bool) → length (without gone xs) ≤ length xs → length (cond b (without gone xs) (x ∷ without gone xs)) ≤ suc (length xs)
+    by-test true h = omega arith
+    by-test false h = omega arith
 
 -- what holds of each literal still does
 all_without : (l : Literal) (P : Literal → Type 0) (xs : List Literal) → All P xs → All P (without l xs)

@@ -1,5 +1,5 @@
 -- Literals: their order, which is that of their numbers, and their opposites. Assumes nothing.
-use Rattle.std.specs.Prelude.{◌≡◌, ◌+◌, ◌-◌, ◌%◌, ◌<◌, Bool, cond, ◌==◌}
+use Rattle.std.specs.Prelude.{◌≡◌, ℕ, ◌+◌, ◌-◌, ◌/◌, ◌%◌, ◌<◌, Bool, cond, ◌==◌}
 use Rattle.std.specs.declared.cmp.Ordering.{Ordering}
 use Rattle.std.specs.Cmp.{IsTotalOrder, nat_cmp_total, on_total, ranks}
 use Rattle.std.specs.Ordering.{MatchOrdering, nat_cmp}
@@ -20,5 +20,11 @@ abbrev pub same : Literal → Literal → Bool
 same x y = x.0 == y.0
 
 -- an even number asserts an atom, and the next one denies it
+abbrev pub asserts : Literal → Bool
+asserts x = x.0 % 2 == 0
+
+abbrev pub atom : Literal → ℕ
+atom x = x.0 / 2
+
 abbrev pub opposite : Literal → Literal
-opposite x = record { 0 = cond (x.0 % 2 == 0) (x.0 + 1) (x.0 - 1) }
+opposite x = record { 0 = cond (asserts x) (x.0 + 1) (x.0 - 1) }

@@ -1,5 +1,6 @@
 -- What stands against a rule, in order, and the line that it makes. Assumes nothing.
 use Rattle.std.specs.Prelude.{ℕ, Bool, true, false, not, ◌&&◌, List, [], ◌∷◌, length, is_some, Some, None, Option, ◌==◌, nat_le}
+use Rattle.std.specs.List.{list_all}
 use Rattle.std.specs.Option.{option_map}
 use Rattle.ordered.specs.Lists.{ascending}
 use Rattle.clauses.specs.declared.kinds.Kind.{Kind}
@@ -13,8 +14,7 @@ use Rattle.clauses.specs.Refusals.{Cause}
 
 -- a rule names the atoms 0 to 1,023
 abbrev pub in_range : List Literal → Bool
-in_range [] = true
-in_range (x ∷ xs) = nat_le x.0 2047 && in_range xs
+in_range xs = list_all (λ x. nat_le x.0 2047) xs
 
 -- by the counts of both sides: a start or global rule has no left, a sometime rule one literal on its right
 abbrev pub shaped : Kind → ℕ → ℕ → Bool

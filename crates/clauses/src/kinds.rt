@@ -3,13 +3,14 @@ ghost use Rattle.std.specs.Prelude.{◌≡◌};
 ghost use Rattle.clauses.specs.Kinds.{joint_kind, joint_scope, kind_of};
 
 // Every move, or the move of one index.
-#[derive(Clone, Copy, PartialEq, Eq)]
+#[derive(Debug, Clone, Copy, Default, PartialEq, Eq)]
 pub enum Scope {
+    #[default]
     All,
     Index(u8),
 }
 
-#[derive(Clone, Copy)]
+#[derive(Debug, Clone, Copy, PartialEq, Eq)]
 pub enum Kind {
     Start,
     Global,
@@ -23,9 +24,8 @@ impl Scope {
         ensures { result ≡ joint_scope self other }
     {
         match (self, other) {
-            (Scope::All, scope) => Some(scope),
-            (scope, Scope::All) => Some(scope),
-            (Scope::Index(i), Scope::Index(j)) => if i == j { Some(Scope::Index(i)) } else { None },
+            (Scope::All, scope) | (scope, Scope::All) => Some(scope),
+            _ => (self == other).then_some(self),
         }
     }
 }
@@ -35,14 +35,12 @@ impl Kind {
     pub fn joint(self, other: Kind) -> Option<Kind>
         ensures { result ≡ joint_kind self other }
     {
+        use Kind::{Global, Start, Step};
         match (self, other) {
-            (Kind::Start, Kind::Start) => Some(Kind::Start),
-            (Kind::Start, Kind::Global) => Some(Kind::Start),
-            (Kind::Global, Kind::Start) => Some(Kind::Start),
-            (Kind::Global, Kind::Global) => Some(Kind::Global),
-            (Kind::Global, Kind::Step(scope)) => Some(Kind::Step(scope)),
-            (Kind::Step(scope), Kind::Global) => Some(Kind::Step(scope)),
-            (Kind::Step(one), Kind::Step(two)) => Some(Kind::Step(one.joint(two)?)),
+            (Start, Start | Global) | (Global, Start) => Some(Start),
+            (Global, Global) => Some(Global),
+            (Global, Step(scope)) | (Step(scope), Global) => Some(Step(scope)),
+            (Step(one), Step(two)) => Some(Step(one.joint(two)?)),
             _ => None,
         }
     }

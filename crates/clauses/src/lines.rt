@@ -9,14 +9,15 @@ use crate::literals::Literal;
 pub const PLACES: usize = 16;
 
 // A side: `count` literals at the front, and 0 in the places beyond.
-#[derive(Clone, Copy)]
+// No `ArrayVec`, since every byte of a table that is lent is fixed, and so is each place of a side.
+#[derive(Debug, Clone, Copy, PartialEq, Eq)]
 pub struct Side {
     pub(crate) count: u8,
     pub(crate) places: [Literal; 16],
 }
 
 // A line of the table: a rule where it is marked, and of the loop that it belongs to, if any.
-#[derive(Clone, Copy)]
+#[derive(Debug, Clone, Copy, PartialEq, Eq)]
 pub struct Line {
     pub kind: Kind,
     pub left: Side,
@@ -35,14 +36,13 @@ impl Side {
     pub fn of(items: &[Literal]) -> Option<Side>
         ensures { result ≡ side_for items.now }
     {
-        let n = items.len();
-        if n > PLACES {
+        if items.len() > PLACES {
             return None;
         }
         let mut places = [Literal(0); 16];
-        places[0..n].copy_from_slice(items);
+        places[..items.len()].copy_from_slice(items);
         Some(Side {
-            count: n as u8,
+            count: items.len() as u8,
             places,
         })
     }
@@ -51,8 +51,8 @@ impl Side {
         ensures value { result.now ≡ literals self.now }
         ensures short { length result.now ≤ 16 }
     {
-        let n = (self.count as usize).min(PLACES);
-        &self.places[0..n]
+        let n = usize::from(self.count).min(PLACES);
+        &self.places[..n]
     }
 }
 
@@ -70,11 +70,6 @@ impl Line {
     pub fn refutes(&self) -> bool
         ensures { result ≡ refutes self.now }
     {
-        match self.kind {
-            Kind::Start => self.right.literals().is_empty(),
-            Kind::Global => self.right.literals().is_empty(),
-            Kind::Step(_) => false,
-            Kind::Sometime(_) => false,
-        }
+        matches!(self.kind, Kind::Start | Kind::Global) && self.right.literals().is_empty()
     }
 }

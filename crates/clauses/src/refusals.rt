@@ -2,21 +2,21 @@
 ghost use Rattle.std.specs.Prelude.{◌≡◌};
 ghost use Rattle.clauses.specs.Refusals.{number_of};
 
-#[derive(Clone, Copy)]
+#[derive(Debug, Clone, Copy, PartialEq, Eq)]
 pub enum Refusal {
-    IndexCount,
-    TableSize,
-    KindOrIndex,
-    LiteralRange,
-    NotAscending,
-    WrongShape,
-    SideTooLong,
-    NotThere,
-    Misfit,
-    LiteralMissing,
-    LoopEnded,
-    NewSideTooLong,
-    NothingLeft,
+    IndexCount = 5,
+    TableSize = 6,
+    KindOrIndex = 7,
+    LiteralRange = 8,
+    NotAscending = 9,
+    WrongShape = 10,
+    SideTooLong = 11,
+    NotThere = 12,
+    Misfit = 13,
+    LiteralMissing = 14,
+    LoopEnded = 15,
+    NewSideTooLong = 17,
+    NothingLeft = 18,
 }
 
 impl Refusal {
@@ -24,20 +24,6 @@ impl Refusal {
     pub fn number(self) -> u8
         ensures { result ≡ number_of self }
     {
-        match self {
-            Refusal::IndexCount => 5,
-            Refusal::TableSize => 6,
-            Refusal::KindOrIndex => 7,
-            Refusal::LiteralRange => 8,
-            Refusal::NotAscending => 9,
-            Refusal::WrongShape => 10,
-            Refusal::SideTooLong => 11,
-            Refusal::NotThere => 12,
-            Refusal::Misfit => 13,
-            Refusal::LiteralMissing => 14,
-            Refusal::LoopEnded => 15,
-            Refusal::NewSideTooLong => 17,
-            Refusal::NothingLeft => 18,
-        }
+        self as u8
     }
 }

@@ -16,14 +16,10 @@ const HIGHEST: u16 = 2047;
 fn in_range(items: &[Literal]) -> bool
     ensures { result ≡ in_range items.now }
 {
-    for x in items {
-        if x.0 > HIGHEST {
-            return false;
-        }
-    }
-    true
+    items.iter().all(|x| x.0 <= HIGHEST)
 }
 
+#[tactic(auto, using(crate::specs::Literals::literal_order))]
 fn ascends(items: &[Literal]) -> bool
     ensures { result ≡ ascending literal_rank items.now }
 {
@@ -35,8 +31,7 @@ fn shape_fits(kind: Kind, left: usize, right: usize) -> bool
     ensures { result ≡ shaped kind left right }
 {
     match kind {
-        Kind::Start => left == 0,
-        Kind::Global => left == 0,
+        Kind::Start | Kind::Global => left == 0,
         Kind::Step(_) => true,
         Kind::Sometime(_) => right == 1,
     }
@@ -62,9 +57,7 @@ pub fn rule_line(
 ) -> Result<Line, Refusal>
     ensures { MatchResult result (λ line. (first_of (rule_causes indices number index left.now right.now) ≡ None) × (Some line ≡ rule_line indices number index left.now right.now)) (λ e. first_of (rule_causes indices number index left.now right.now) ≡ Some (number_of e)) }
 {
-    let Some(kind) = Kind::named(number, index, indices) else {
-        return Err(Refusal::KindOrIndex);
-    };
+    let kind = Kind::named(number, index, indices).ok_or(Refusal::KindOrIndex)?;
     if !in_range(left) || !in_range(right) {
         return Err(Refusal::LiteralRange);
     }
@@ -77,13 +70,10 @@ pub fn rule_line(
     if left.len() > most_left(kind) {
         return Err(Refusal::SideTooLong);
     }
-    let (Some(left), Some(right)) = (Side::of(left), Side::of(right)) else {
-        return Err(Refusal::SideTooLong);
-    };
     Ok(Line {
         kind,
-        left,
-        right,
+        left: Side::of(left).ok_or(Refusal::SideTooLong)?,
+        right: Side::of(right).ok_or(Refusal::SideTooLong)?,
         mark: true,
         belongs: None,
     })

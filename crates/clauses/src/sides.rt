@@ -1,12 +1,24 @@
 // New sides from sides.
-ghost use Rattle.std.specs.Prelude.{◌≡◌, ◌≤◌, true, length};
+ghost use Rattle.std.specs.Prelude.{◌≡◌, ◌<◌, ◌≤◌, true, List, [], ◌∷◌, ◌++◌, length};
 ghost use Rattle.clauses.specs.Lines.{literals, side_for, side_of};
 ghost use Rattle.clauses.specs.Sides.{ascends, has, join, opposites, without};
 
 use crate::lines::Side;
 use crate::literals::Literal;
 
+impl Side {
+    // Lays one more literal behind the others.
+    fn push(&mut self, literal: Literal)
+        requires { self.old.count < 16 }
+        ensures { (xs : List Literal) → self.old ≡ side_of xs → self.new ≡ side_of (xs ++ literal ∷ []) }
+    {
+        self.places[usize::from(self.count)] = literal;
+        self.count += 1;
+    }
+}
+
 // Whether the literal is in the side.
+#[tactic(auto, using(crate::specs::Literals::literal_order, ordered::proofs::Holding::found_holds))]
 pub(crate) fn contains(side: &[Literal], literal: Literal) -> bool
     ensures { ascends side.now ≡ true → result ≡ has side.now literal }
 {
@@ -30,15 +42,13 @@ pub(crate) fn without(items: &[Literal], gone: Literal) -> Side
     requires { length items.now ≤ 16 }
     ensures { result ≡ side_of (without gone items.now) }
 {
-    let mut stays = [Literal(0); 16];
-    let mut count = 0;
+    let mut kept = Side::EMPTY;
     for x in items {
-        if x.0 != gone.0 {
-            stays[count] = *x;
-            count += 1;
+        if *x != gone {
+            kept.push(*x);
         }
     }
-    Side::of(&stays[0..count]).unwrap()
+    kept
 }
 
 // The side of the opposites of these literals.

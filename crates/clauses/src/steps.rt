@@ -3,7 +3,7 @@ ghost use Rattle.std.specs.Prelude.{◌≡◌, true, ◌&&◌, [], ◌∷◌, le
 ghost use Rattle.clauses.specs.Lines.{literals, side_for};
 ghost use Rattle.clauses.specs.Literals.{opposite};
 ghost use Rattle.clauses.specs.Sides.{ascends, join, opposites, without};
-ghost use Rattle.clauses.specs.Steps.{clashes, either_loop, entered_line, entered_right, proper, resolved_fits, resolved_line, rewritable, rewritten_line, stayed_line};
+ghost use Rattle.clauses.specs.Steps.{clashes, entered_line, entered_right, proper, resolved_fits, resolved_line, rewritable, rewritten_line, stayed_line};
 
 use crate::kinds::{Kind, Scope};
 use crate::lines::{Line, Side};
@@ -18,15 +18,6 @@ fn clash_joined(one: &Side, two: &Side, literal: Literal) -> Option<Side>
     let mine = without(one.literals(), literal);
     let theirs = without(two.literals(), literal.opposite());
     joined(mine.literals(), theirs.literals())
-}
-
-fn either_loop(one: Option<u8>, two: Option<u8>) -> Option<u8>
-    ensures { result ≡ either_loop one two }
-{
-    match one {
-        Some(number) => Some(number),
-        None => two,
-    }
 }
 
 // The opposites of a left, a goal and its wait, where they have place.
@@ -53,13 +44,13 @@ impl Line {
     {
         let left = joined(self.left.literals(), other.left.literals())?;
         let right = clash_joined(&self.right, &other.right, literal)?;
-        let belongs = either_loop(self.belongs, other.belongs);
+        let belongs = self.belongs.or(other.belongs);
         Some(Line {
             kind,
             left,
             right,
-            mark: false,
             belongs,
+            ..Line::BLANK
         })
     }
 
@@ -67,10 +58,7 @@ impl Line {
     pub fn rewritable(&self) -> bool
         ensures { result ≡ rewritable self.now }
     {
-        match self.kind {
-            Kind::Step(_) => self.right.literals().is_empty(),
-            _ => false,
-        }
+        matches!(self.kind, Kind::Step(_)) && self.right.literals().is_empty()
     }
 
     // The global line of the opposites of the left.
@@ -80,10 +68,8 @@ impl Line {
         let right = opposites(self.left.literals());
         Line {
             kind: Kind::Global,
-            left: Side::EMPTY,
             right,
-            mark: false,
-            belongs: None,
+            ..Line::BLANK
         }
     }
 
@@ -94,10 +80,8 @@ impl Line {
         let right = entered_right(&self.left, goal, wait)?;
         Some(Line {
             kind: Kind::Global,
-            left: Side::EMPTY,
             right,
-            mark: false,
-            belongs: None,
+            ..Line::BLANK
         })
     }
 }
@@ -112,7 +96,6 @@ pub fn stayed(scope: Scope, goal: Literal, wait: Literal) -> Option<Line>
         kind: Kind::Step(scope),
         left,
         right,
-        mark: false,
-        belongs: None,
+        ..Line::BLANK
     })
 }
