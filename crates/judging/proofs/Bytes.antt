@@ -1,14 +1,14 @@
 -- Marks as bytes, what one write does to them, and how a test of all numbers below a bound goes on. Assumes nothing.
-use Rattle.std.proofs.Common.{◌≡◌, ℕ, zero, suc, ◌+◌, ◌<◌, Bool, true, false, cond, not, eqb, ◌≢◌, List, [], ◌∷◌, ◌++◌, length, get_or, drop, set, replicate, sym, ap, ◌∙◌, ap₂, ⊎_elim, add-one, arith, get_or-set_other, get_or-set_same}
-use Rattle.std.proofs.lemmas.Bool.{false≢true, and_from, cases_Bool, cases_eq, cond-true, eq-eqb, ne_eqb, not_from_false, not_from_true}
+use Rattle.std.proofs.Common.{◌≡◌, ℕ, zero, suc, ◌+◌, ◌<◌, Bool, true, false, cond, not, eqb, ◌≢◌, ◌&&◌, zero-add, refl, List, [], ◌∷◌, ◌++◌, length, get_or, drop, set, replicate, sym, ap, ◌∙◌, ap₂, ⊎_elim, add-one, arith, map, get_or-set_other, get_or-set_same}
+use Rattle.std.proofs.lemmas.Bool.{cases_eq, cond-true, eq-eqb, ne_eqb, not_from_false}
+use Rattle.std.specs.List.{list_all, range_with_len}
+use Rattle.std.proofs.lemmas.List.Folds.{list_all-append, list_all-map}
+use Rattle.std.proofs.Math.Bool.{and-true}
+use Rattle.std.proofs.lemmas.List.FromFn.{map-range_with_len_more}
 use Rattle.truth.specs.Deciding.{all_below}
-use Rattle.truth.proofs.Below.{below_elim}
 use Rattle.judging.specs.Marks.{marked, unmarked}
 
 -- ---- one byte
-
-pub not_marked : (marks : List ℕ) (s : ℕ) → get_or marks s 0 ≡ 0 → marked marks s ≡ false
-not_marked marks s is = not_from_true _ (eq-eqb (get_or marks s 0) 0 is)
 
 pub is_marked : (marks : List ℕ) (s : ℕ) → (get_or marks s 0 ≡ 0 → ⊥) → marked marks s ≡ true
 is_marked marks s is = not_from_false _ (ne_eqb (get_or marks s 0) 0 is)
@@ -46,10 +46,16 @@ cleared marks front n k states zeros all rest = ap₂ (λ xs m. xs ++ drop m mar
 
 -- ---- every number below
 
-pub below_more : (n : ℕ) (p : ℕ → Bool) → all_below n p ≡ true → p n ≡ true → all_below (n + 1) p ≡ true
-below_more n p all here = rw add-one (and_from (all_below n p) (p n) all here)
+-- a test of the numbers from 0 on, one after another
+row_more : (n : ℕ) (p : ℕ → Bool) → list_all p (range_with_len 0 (n + 1)) ≡ (list_all p (range_with_len 0 n) && p n)
+row_more n p =
+    sym (list_all-map (λ b. b) p (range_with_len 0 (n + 1)))
+    ∙ ap (list_all (λ b. b)) (map-range_with_len_more p 0 n n (zero-add n))
+    ∙ list_all-append (λ b. b) (map p (range_with_len 0 n)) (p n ∷ [])
+    ∙ ap₂ (λ a b. a && b) (list_all-map (λ b. b) p (range_with_len 0 n)) (and-true (p n))
 
--- one that fails is enough
-pub below_fails_at : (n : ℕ) (p : ℕ → Bool) (k : ℕ) → k < n → p k ≡ false → all_below n p ≡ false
-below_fails_at n p k lt fails =
-    ⊎_elim (λ e. absurd (false≢true (sym fails ∙ below_elim n p e k lt))) (λ e. e) (cases_Bool (all_below n p))
+pub row_below : (n : ℕ) (p q : ℕ → Bool) → ((k : ℕ) → k < n → p k ≡ q k) → list_all p (range_with_len 0 n) ≡ all_below n q
+row_below zero p q same = refl
+row_below (suc n) p q same =
+    ap (λ m. list_all p (range_with_len 0 m)) (sym (add-one n)) ∙ row_more n p
+    ∙ ap₂ (λ a b. a && b) (row_below n p q (λ k lt. same k (omega arith))) (same n (omega arith))

@@ -1,6 +1,6 @@
 -- Marks that grow until they are closed show what is met sooner or later. Assumes nothing.
 use Rattle.std.proofs.Common.{◌≡◌, ℕ, ◌+◌, ◌-◌, ◌<◌, ◌≤◌, Bool, true, false, ◌⊎◌, List, length, get_or, set, sym, ap, ◌∙◌, subst, inl, inr, ⊎_elim, arith, length-set}
-use Rattle.std.proofs.lemmas.Bool.{true≢false, false≢true, cases_eq, or_cases, or_left, or_right}
+use Rattle.std.proofs.lemmas.Bool.{true≢false, cases_eq, or_cases, or_right}
 use Rattle.std.proofs.lemmas.Bool.Decides.{same_from_decides}
 use Rattle.clauses.specs.declared.kinds.Scope.{Scope}
 use Rattle.truth.specs.Systems.{System, Speaks, WellFormed}
@@ -17,16 +17,6 @@ pub record Round (sys : System) (scope : Scope) (entry marks : List ℕ) (grown 
   pub fewer : unmarked marks ≤ unmarked entry
   pub more : grown ≡ true → unmarked marks < unmarked entry
   pub shut : Speaks sys scope → grown ≡ false → (k : ℕ) → Seen k → k < length marks → every_next sys scope (marked marks) k ≡ true → marked marks k ≡ true
-
--- before the first state
-pub round_none : (sys : System) (scope : Scope) (marks : List ℕ) (Seen : ℕ → Type 0) → ((k : ℕ) → Seen k → k < length marks → ⊥) → Round sys scope marks marks false Seen
-round_none sys scope marks Seen none = record {
-  grows = λ s lt h. h;
-  inside = λ speaks p h. h;
-  fewer = omega arith;
-  more = λ e. absurd (false≢true e);
-  shut = λ speaks e k seen lt all. absurd (none k seen lt);
-}
 
 module _ (sys : System) (scope : Scope) (entry marks : List ℕ) (grown : Bool) (i : ℕ) (Seen Later : ℕ → Type 0) (last : (k : ℕ) → Later k → k < length marks → (k ≡ i) ⊎ Seen k) (turn : Round sys scope entry marks grown Seen) where
   -- a state that is marked already, or from which not every move leads to a marked one
@@ -84,12 +74,7 @@ one_seen n false step low k seen lt = ⊎_elim inl (λ other. inr (omega arith))
 -- ---- round after round
 
 module _ (sys : System) (scope : Scope) (p : ℕ → Bool) (formed : WellFormed sys) (speaks : Speaks sys scope) where
-  -- what shows p is within what is met sooner or later
-  pub within_first : (marks : List ℕ) → length marks ≡ sys.states → Shows marks p → Within marks (sooner sys scope p)
-  within_first marks states shows s lt m =
-      sooner_step sys scope p formed speaks s (omega arith) (or_left (p s) (every_next sys scope (sooner sys scope p) s) (sym (shows s lt) ∙ m))
-
-  -- and what then grows within it until it is closed shows it
+  -- what grows from p, within what is met sooner or later, until it is closed shows that
   pub shows_at_last : (entry marks : List ℕ) → length marks ≡ sys.states → length entry ≡ length marks → Shows entry p → Grows entry marks → Within marks (sooner sys scope p) → Closed sys scope marks → Shows marks (sooner sys scope p)
   shows_at_last entry marks states width shows grows within closed s lt =
       same_from_decides (marked marks s) (sooner sys scope p s) (

@@ -10,7 +10,7 @@ ghost use Rattle.judging.specs.Judging.{AllFit, Exactly, judge_causes, judgement
 ghost use Rattle.judging.specs.Marks.{Shows, asked};
 
 use crate::judgements::Judgement;
-use crate::marks::{mark_asked, next_marked};
+use crate::marks::Marked;
 use crate::truths::left_holds;
 use clauses::{Kind, Line};
 use plans::{Plan, PlanRefusal};
@@ -18,47 +18,59 @@ use plans::{Plan, PlanRefusal};
 // The most states of a plan that is judged.
 const MOST_STATES: usize = 256;
 
-// Whether the rule is broken at a state, with what it asks for marked.
-fn broken_at<P: Plan>(plan: &P, rule: &Line, marks: &[u8], state: usize) -> bool
-    requires formed { WellFormed (P.Plan.system plan.now) }
-    requires states { length marks.now ≡ (P.Plan.system plan.now).states }
-    requires few { length marks.now ≤ 256 }
-    requires there { state < length marks.now }
-    ensures { Fits (P.Plan.system plan.now) rule.now.kind → Shows marks.now (asked (P.Plan.system plan.now) rule.now.kind (literals rule.now.right)) → result ≡ breaks (P.Plan.system plan.now) rule.now state }
-{
-    match rule.kind {
-        Kind::Start => state == 0 && marks[state] == 0,
-        Kind::Global => marks[state] == 0,
-        Kind::Step(scope) => left_holds(plan, rule.left.literals(), state as u16)
-            && !next_marked(plan, scope, marks, state as u16),
-        Kind::Sometime(_) => left_holds(plan, rule.left.literals(), state as u16)
-            && marks[state] == 0,
+impl<'p, 'm, P: Plan> Marked<'p, 'm, P> {
+    // Whether the rule is broken at a state, with what it asks for marked.
+    fn broken_at(&self, rule: &Line, state: usize) -> bool
+        requires { state < length self.now.marks.now }
+        ensures { Fits (P.Plan.system self.now.plan.now) rule.now.kind → Shows self.now.marks.now (asked (P.Plan.system self.now.plan.now) rule.now.kind (literals rule.now.right)) → result ≡ breaks (P.Plan.system self.now.plan.now) rule.now state }
+    {
+        match rule.kind {
+            Kind::Start => state == 0 && self.marks[state] == 0,
+            Kind::Global => self.marks[state] == 0,
+            Kind::Step(scope) => left_holds(self.plan, rule.left.literals(), state as u16)
+                && !self.next_marked(scope, state as u16),
+            Kind::Sometime(_) => left_holds(self.plan, rule.left.literals(), state as u16)
+                && self.marks[state] == 0,
+        }
+    }
+
+    // The lowest rule that is broken and the lowest state at which it is; the marks are left as they come.
+    fn judged(&mut self, rules: &[Line]) -> Judgement
+        ensures plan { self.new.plan ≡ self.old.plan }
+        ensures lent { self.new.marks.ghost_name ≡ self.old.marks.ghost_name }
+        ensures told { AllFit (P.Plan.system self.old.plan.now) rules.now → result ≡ judgement (P.Plan.system self.old.plan.now) rules.now }
+    {
+        let mut judgement = Judgement::Kept;
+        'rules: for (number, rule) in rules.iter().enumerate() {
+            if !rule.mark {
+                continue;
+            }
+            self.mark_asked(rule);
+            for state in 0..self.marks.len() {
+                if self.broken_at(rule, state) {
+                    judgement = Judgement::Broken {
+                        rule: number,
+                        state,
+                    };
+                    break 'rules;
+                }
+            }
+        }
+        judgement
     }
 }
 
-// The lowest rule that is broken and the lowest state at which it is; the marks are left as they come.
-fn judged<P: Plan>(plan: &P, rules: &[Line], marks: &mut [u8]) -> Judgement
+// Judges a plan with a mark for each of its states; the marks are 0 afterwards.
+fn judge_marked<P: Plan>(plan: &P, rules: &[Line], marks: &mut [u8]) -> Judgement
     requires formed { WellFormed (P.Plan.system plan.now) }
     requires states { length marks.old ≡ (P.Plan.system plan.now).states }
     requires few { length marks.old ≤ 256 }
-    ensures { AllFit (P.Plan.system plan.now) rules.now → result ≡ judgement (P.Plan.system plan.now) rules.now }
+    ensures told { AllFit (P.Plan.system plan.now) rules.now → result ≡ judgement (P.Plan.system plan.now) rules.now }
+    ensures cleared { marks.new ≡ replicate (length marks.old) 0 }
 {
-    let mut judgement = Judgement::Kept;
-    'rules: for (number, rule) in rules.iter().enumerate() {
-        if !rule.mark {
-            continue;
-        }
-        mark_asked(plan, rule, marks);
-        for state in 0..marks.len() {
-            if broken_at(plan, rule, marks, state) {
-                judgement = Judgement::Broken {
-                    rule: number,
-                    state,
-                };
-                break 'rules;
-            }
-        }
-    }
+    let mut marked = Marked { plan, marks };
+    let judgement = marked.judged(rules);
+    marked.clear();
     judgement
 }
 
@@ -73,15 +85,12 @@ pub fn judge_rules<P: Plan>(
     ensures exactly { IfOk result (λ j. AllFit (P.Plan.system plan.now) rules.now → Exactly (P.Plan.system plan.now) rules.now j) }
     ensures marks { MatchResult result (λ _. marks.new ≡ replicate (P.Plan.system plan.now).states 0 ++ drop (P.Plan.system plan.now).states marks.old) (λ _. marks.new ≡ marks.old) }
 {
-    let states = plan.states() as usize;
+    let states = usize::from(plan.states());
     if marks.len() < states {
         return Err(PlanRefusal::TableTooShort);
     }
     if states > MOST_STATES || plan.indices() != indices {
         return Err(PlanRefusal::OutOfRange);
     }
-    let used = &mut marks[0..states];
-    let judgement = judged(plan, rules, used);
-    used.fill(0);
-    Ok(judgement)
+    Ok(judge_marked(plan, rules, &mut marks[0..states]))
 }

@@ -18,12 +18,8 @@ pub(crate) fn left_holds<P: Plan>(plan: &P, left: &[Literal], state: u16) -> boo
     requires { state < (P.Plan.system plan.now).states }
     ensures { result ≡ left_at (P.Plan.system plan.now) left.now state }
 {
-    for literal in left {
-        if !literal_holds(plan, *literal, state) {
-            return false;
-        }
-    }
-    true
+    left.iter()
+        .all(|literal| literal_holds(plan, *literal, state))
 }
 
 // Whether one literal of a right holds at a state.
@@ -31,10 +27,7 @@ pub(crate) fn right_holds<P: Plan>(plan: &P, right: &[Literal], state: u16) -> b
     requires { state < (P.Plan.system plan.now).states }
     ensures { result ≡ right_at (P.Plan.system plan.now) right.now state }
 {
-    for literal in right {
-        if literal_holds(plan, *literal, state) {
-            return true;
-        }
-    }
-    false
+    right
+        .iter()
+        .any(|literal| literal_holds(plan, *literal, state))
 }
