@@ -3,6 +3,8 @@ use Rattle.std.proofs.Common.{◌≡◌, ℕ, ◌+◌, ◌*◌, ◌<◌, ◌≤�
 use Rattle.std.specs.List.{AllByRecursion as All}
 use Rattle.std.proofs.lemmas.Nat.{mul-add-lt}
 use Rattle.std.proofs.lemmas.List.{get_or-take, length-take-le}
+use Rattle.std.proofs.lemmas.List.Elements.{All-get_or}
+use Rattle.std.proofs.lemmas.List.Sums.{AllPass-from_list_all}
 use Rattle.std.specs.Ordering.{is_eq}
 use Rattle.std.proofs.lemmas.Bool.{true≢false, and_parts, cases_Bool, cases_lt, cond-true, leb-true, le-ltb, lt-ltb, ltb-true, ltb-false, not-false, or_from}
 use Rattle.ordered.specs.declared.Pair.{Pair}
@@ -12,10 +14,12 @@ use Rattle.ordered.proofs.Ascending.{equal_from_test}
 use Rattle.ordered.proofs.Pairing.{same_pair}
 use Rattle.clauses.specs.Refusals.{Cause, first_of}
 use Rattle.truth.specs.Systems.{WellFormed}
+use Rattle.plans.specs.declared.rings.Ring.{Ring}
+use Rattle.plans.specs.declared.tables.TablePlan.{TablePlan}
+use Rattle.plans.specs.Held.{table_of}
 use Rattle.plans.specs.Questions.{free_target}
-use Rattle.plans.specs.Tables.{leading, moves_fit, pair, pairs_below, sized, table_causes, table_system, targets_fit, truths_fit}
+use Rattle.plans.specs.Tables.{leading, moves_fit, pair, pairs_below, sized, table_causes, targets_fit, truths_fit}
 use Rattle.plans.specs.Rings.{ring_causes}
-use Rattle.plans.proofs.Every.{every_at}
 use Rattle.plans.proofs.Leading.{leading_at, leading_below, pick}
 
 not_first : (n : ℕ) (t : Bool) (o : Option ℕ) → is_some (cond t (Some n) o) ≡ false → (t ≡ false) × (is_some o ≡ false)
@@ -29,18 +33,10 @@ none_holds (c ∷ cs) h =
     let first = not_first c.0 c.1 (first_of cs) h in
     (first.0, none_holds cs first.1)
 
-pub record Sized (n k : ℕ) : Type 0 where
-  pub some : 1 ≤ n
-  pub few : n ≤ 256
-  pub one : 1 ≤ k
-  pub most : k ≤ 16
-
-sized_parts : (n k : ℕ) → sized n k ≡ true → Sized n k
+sized_parts : (n k : ℕ) → sized n k ≡ true → (1 ≤ n) × (1 ≤ k)
 sized_parts n k h =
     let both = and_parts (leb 1 n && leb n 256) (leb 1 k && leb k 16) h in
-    let states = and_parts (leb 1 n) (leb n 256) both.0 in
-    let indices = and_parts (leb 1 k) (leb k 16) both.1 in
-    record { some = leb-true 1 n states.0; few = leb-true n 256 states.1; one = leb-true 1 k indices.0; most = leb-true k 16 indices.1 }
+    (leb-true 1 n (and_parts (leb 1 n) (leb n 256) both.0).0, leb-true 1 k (and_parts (leb 1 k) (leb k 16) both.1).0)
 
 -- pairs below their bounds hold no other
 pub none_beyond : (one two s a : ℕ) (ps : List Pair) → pairs_below one two ps ≡ true → (one ≤ s) ⊎ (two ≤ a) → holds pair_rank ps (pair s a) ≡ false
@@ -70,71 +66,80 @@ truths_beyond n s a truths fits far = none_beyond n 1024 s a truths (below_part 
 pub truths_answer : (n s a : ℕ) (truths : List Pair) → truths_fit n truths ≡ true → holds pair_rank truths (pair s a) ≡ (ltb s n && holds pair_rank truths (pair s a))
 truths_answer n s a truths fits = ⊎_elim (λ l. ap (λ b. b && holds pair_rank truths (pair s a)) (sym (lt-ltb s n l))) (λ l. none_beyond n 1024 s a truths (below_part n truths fits) (inl l) ∙ ap (λ b. b && holds pair_rank truths (pair s a)) (sym (le-ltb s n l))) (cases_lt s n)
 
-pub record TableFits (n k : ℕ) (targets : List ℕ) (truths moves : List Pair) : Type 0 where
-  pub sizes : Sized n k
-  pub enough : n * k ≤ length targets
-  pub truths_up : ascending pair_rank truths ≡ true
-  pub moves_up : ascending pair_rank moves ≡ true
-  pub targets_fit : targets_fit n k targets ≡ true
-  pub truths_fit : truths_fit n truths ≡ true
-  pub moves_few : length moves ≤ 4096
-  pub moves_fit : pairs_below n n moves ≡ true
+pub record TableFits (plan : TablePlan) : Type 0 where
+  pub begins : 1 ≤ plan.states
+  pub indexed : 1 ≤ plan.indices
+  pub enough : plan.states * plan.indices ≤ length plan.targets.now
+  pub truths_up : ascending pair_rank plan.truths.now ≡ true
+  pub moves_up : ascending pair_rank plan.moves.now ≡ true
+  pub targets_fit : targets_fit plan.states plan.indices plan.targets.now ≡ true
+  pub truths_fit : truths_fit plan.states plan.truths.now ≡ true
+  pub moves_fit : pairs_below plan.states plan.states plan.moves.now ≡ true
 
-pub table_fits : (n k : ℕ) (targets : List ℕ) (truths moves : List Pair) → is_some (first_of (table_causes n k targets truths moves)) ≡ false → TableFits n k targets truths moves
-table_fits n k targets truths moves h =
-    let clear = none_holds (table_causes n k targets truths moves) h in
-    let up = and_parts (ascending pair_rank truths) (ascending pair_rank moves) (not-false _ clear.1.0) in
-    let all = and_parts (sized n k) _ (not-false _ clear.1.1.0) in
-    let lists = and_parts (targets_fit n k targets) _ all.1 in
-    let pairs = and_parts (truths_fit n truths) (moves_fit n moves) lists.1 in
+pub table_fits : (plan : TablePlan) → TableFits plan
+table_fits plan =
+    let n = plan.states in
+    let moves = plan.moves.now in
+    let clear = none_holds (table_causes n plan.indices plan.targets.now plan.truths.now moves) plan.lawful in
+    let up = and_parts (ascending pair_rank plan.truths.now) (ascending pair_rank moves) (not-false _ clear.1.0) in
+    let all = and_parts (sized n plan.indices) _ (not-false _ clear.1.1.0) in
+    let sizes = sized_parts n plan.indices all.0 in
+    let lists = and_parts (targets_fit n plan.indices plan.targets.now) _ all.1 in
+    let pairs = and_parts (truths_fit n plan.truths.now) (moves_fit n moves) lists.1 in
     let free = and_parts (leb (length moves) 4096) (pairs_below n n moves) pairs.1 in
     record {
-      sizes = sized_parts n k all.0;
+      begins = sizes.0;
+      indexed = sizes.1;
       enough = ltb-false _ _ clear.0;
       truths_up = up.0;
       moves_up = up.1;
       targets_fit = lists.0;
       truths_fit = pairs.0;
-      moves_few = leb-true _ _ free.0;
       moves_fit = free.1;
     }
 
-module _ (n k : ℕ) (targets : List ℕ) (truths moves : List Pair) (fits : TableFits n k targets truths moves) where
+module _ (plan : TablePlan) where
   -- the place of a state and an index in the table of targets
-  pub target_place : (s i : ℕ) → s < n → i < k → s * k + i < n * k
-  target_place s i l m = omega (arith, mul-add-lt s k i n l m)
+  pub target_place : (s i : ℕ) → s < plan.states → i < plan.indices → s * plan.indices + i < plan.states * plan.indices
+  target_place s i l m = omega (arith, mul-add-lt s plan.indices i plan.states l m)
 
-  target_state : (s i : ℕ) → s < n → i < k → get_or targets (s * k + i) 0 < n
+  target_state : (s i : ℕ) → s < plan.states → i < plan.indices → get_or plan.targets.now (s * plan.indices + i) 0 < plan.states
   target_state s i l m =
+      let n = plan.states in
+      let targets = plan.targets.now in
+      let used = n * plan.indices in
+      let at = s * plan.indices + i in
+      let fits = table_fits plan in
       let place = target_place s i l m in
-      let under = every_at (λ t. ltb t n) (take (n * k) targets) (s * k + i) 0 fits.targets_fit (rw (length-take-le (n * k) targets fits.enough) place) in
-      ltb-true _ _ (ap (λ t. ltb t n) (sym (get_or-take (n * k) targets (s * k + i) 0 place)) ∙ under)
+      let under = All-get_or (λ t. ltb t n ≡ true) (take used targets) at 0 (rw (length-take-le used targets fits.enough) place) (AllPass-from_list_all (λ t. ltb t n) (take used targets) fits.targets_fit) in
+      ltb-true _ _ (ap (λ t. ltb t n) (sym (get_or-take used targets at 0 place)) ∙ under)
 
-  pub table_formed : WellFormed (table_system n k targets truths moves)
-  table_formed = record {
-    begins = fits.sizes.some;
-    indexed = fits.sizes.one;
-    closed = λ s t l. ⊎_elim (λ m. rw m.2 (target_state s m.0 l m.1)) (λ m. rw m.2 (leading_below s n n moves m.0 fits.moves_fit m.1));
-  }
+  pub table_formed : WellFormed (table_of plan)
+  table_formed =
+      let fits = table_fits plan in
+      record {
+        begins = fits.begins;
+        indexed = fits.indexed;
+        closed = λ s t l. ⊎_elim (λ m. rw m.2 (target_state s m.0 l m.1)) (λ m. rw m.2 (leading_below s plan.states plan.states plan.moves.now m.0 fits.moves_fit m.1));
+      }
 
   -- the free move of a number, by what stands after all pairs that begin below its state
-  pub free_answer : (s j here v : ℕ) → s < n → here ≡ count_below pair_rank moves (pair s 0) → pick s moves (here + j) ≡ v → v ≡ free_target (table_system n k targets truths moves) s j
-  free_answer s j here v l e h = sym (cond-true (ltb s n) (get_or (leading s moves) j 0) 0 (lt-ltb s n l) ∙ leading_at s moves j fits.moves_up ∙ ap (λ m. pick s moves (m + j)) (sym e) ∙ h)
+  pub free_answer : (s j here v : ℕ) → s < plan.states → here ≡ count_below pair_rank plan.moves.now (pair s 0) → pick s plan.moves.now (here + j) ≡ v → v ≡ free_target (table_of plan) s j
+  free_answer s j here v l e h =
+      let moves = plan.moves.now in
+      sym (cond-true (ltb s plan.states) (get_or (leading s moves) j 0) 0 (lt-ltb s plan.states l) ∙ leading_at s moves j (table_fits plan).moves_up ∙ ap (λ m. pick s moves (m + j)) (sym e) ∙ h)
 
-pub record RingFits (n k back : ℕ) (truths : List Pair) : Type 0 where
-  pub sizes : Sized n k
-  pub back_fits : back < n
-  pub truths_up : ascending pair_rank truths ≡ true
-  pub truths_fit : truths_fit n truths ≡ true
+pub record RingFits (plan : Ring) : Type 0 where
+  pub truths_up : ascending pair_rank plan.truths.now ≡ true
+  pub truths_fit : truths_fit plan.states plan.truths.now ≡ true
 
-pub ring_fits : (n k back : ℕ) (truths : List Pair) → is_some (first_of (ring_causes n k back truths)) ≡ false → RingFits n k back truths
-ring_fits n k back truths h =
-    let clear = none_holds (ring_causes n k back truths) h in
-    let all = and_parts (sized n k) _ (not-false _ clear.1.0) in
-    let rest = and_parts (ltb back n) (truths_fit n truths) all.1 in
+pub ring_fits : (plan : Ring) → RingFits plan
+ring_fits plan =
+    let n = plan.states in
+    let clear = none_holds (ring_causes n plan.indices plan.back plan.truths.now) plan.lawful in
+    let all = and_parts (sized n plan.indices) _ (not-false _ clear.1.0) in
+    let rest = and_parts (ltb plan.back n) (truths_fit n plan.truths.now) all.1 in
     record {
-      sizes = sized_parts n k all.0;
-      back_fits = ltb-true _ _ rest.0;
       truths_up = not-false _ clear.0;
       truths_fit = rest.1;
     }

@@ -1,5 +1,6 @@
 -- The system of three tables, and what stands against them. Assumes nothing.
-use Rattle.std.specs.Prelude.{ℕ, ◌+◌, ◌*◌, Bool, true, cond, not, ◌&&◌, List, [], ◌∷◌, length, take, ◌==◌, nat_le, nat_lt, slice_index}
+use Rattle.std.specs.Prelude.{ℕ, ◌+◌, ◌*◌, Bool, cond, not, ◌&&◌, List, [], ◌∷◌, length, take, ◌==◌, nat_le, nat_lt, slice_index}
+use Rattle.std.specs.List.{list_all}
 use Rattle.ordered.specs.declared.Pair.{Pair}
 use Rattle.ordered.specs.Lists.{ascending, holds}
 use Rattle.ordered.specs.Pairs.{pair_rank}
@@ -22,17 +23,13 @@ table_system n k targets truths moves = record { states = n; indices = k; holds 
 
 -- ---- what stands against it
 
-abbrev pub every : {X : Type 0} → (X → Bool) → List X → Bool
-every p [] = true
-every p (x ∷ xs) = p x && every p xs
-
 -- 1 to 256 states and 1 to 16 indices
 abbrev pub sized : ℕ → ℕ → Bool
 sized n k = (nat_le 1 n && nat_le n 256) && (nat_le 1 k && nat_le k 16)
 
 -- the first number of each pair is below the one bound, and the second below the other
 abbrev pub pairs_below : ℕ → ℕ → List Pair → Bool
-pairs_below one two pairs = every (λ p. nat_lt p.first one && nat_lt p.second two) pairs
+pairs_below one two pairs = list_all (λ p. nat_lt p.first one && nat_lt p.second two) pairs
 
 -- at most 8,192 pairs of a state and an atom, of which there are 1,024
 abbrev pub truths_fit : ℕ → List Pair → Bool
@@ -43,7 +40,7 @@ abbrev pub moves_fit : ℕ → List Pair → Bool
 moves_fit n moves = nat_le (length moves) 4096 && pairs_below n n moves
 
 abbrev pub all_under : ℕ → List ℕ → Bool
-all_under n numbers = every (λ t. nat_lt t n) numbers
+all_under n numbers = list_all (λ t. nat_lt t n) numbers
 
 -- every target is a state
 abbrev pub targets_fit : ℕ → ℕ → List ℕ → Bool

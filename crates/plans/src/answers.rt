@@ -1,6 +1,6 @@
 // How the table plan and the ring answer.
-ghost use Rattle.std.specs.Prelude.{◌≡◌, true};
-ghost use Rattle.ordered.specs.Lists.{ascending, holds};
+ghost use Rattle.std.specs.Prelude.{◌≡◌, ◌≤◌, true, length};
+ghost use Rattle.ordered.specs.Lists.{ascending, count_below, holds};
 ghost use Rattle.ordered.specs.Pairs.{pair_rank};
 ghost use Rattle.plans.specs.Held.{ring_of, table_of};
 ghost use Rattle.plans.specs.Tables.{pair};
@@ -14,14 +14,25 @@ use ordered::{Pair, find, lower};
 fn listed(truths: &[Pair], state: u16, atom: u16) -> bool
     ensures { ascending pair_rank truths.now ≡ true → result ≡ holds pair_rank truths.now (pair state atom) }
 {
-    find(
-        truths,
-        &Pair {
+    let truth = Pair {
+        first: state,
+        second: atom,
+    };
+    find(truths, &truth).is_some()
+}
+
+impl<'a> TablePlan<'a> {
+    // How many free moves lead from the states below a state.
+    fn moves_before(&self, state: u16) -> usize
+        ensures within { result ≤ length self.now.moves.now }
+        ensures value { result ≡ count_below pair_rank self.now.moves.now (pair state 0) }
+    {
+        let first = Pair {
             first: state,
-            second: atom,
-        },
-    )
-    .is_some()
+            second: 0,
+        };
+        lower(self.moves, &first)
+    }
 }
 
 impl<'a> Plan for TablePlan<'a> {
@@ -43,48 +54,30 @@ impl<'a> Plan for TablePlan<'a> {
         if state >= self.states || index >= self.indices {
             return 0;
         }
-        self.targets[state as usize * self.indices as usize + index as usize]
+        self.targets[usize::from(state) * usize::from(self.indices) + usize::from(index)]
     }
 
+    #[tactic(auto, using(crate::proofs::Leading::leading_count))]
     fn free_count(&self, state: u16) -> u16 {
         if state >= self.states {
             return 0;
         }
-        let here = lower(
-            self.moves,
-            &Pair {
-                first: state,
-                second: 0,
-            },
-        );
-        let after = lower(
-            self.moves,
-            &Pair {
-                first: state + 1,
-                second: 0,
-            },
-        );
-        (after - here) as u16
+        (self.moves_before(state + 1) - self.moves_before(state)) as u16
     }
 
     fn free_target(&self, state: u16, number: u16) -> u16 {
         if state >= self.states {
             return 0;
         }
-        let here = lower(
-            self.moves,
-            &Pair {
-                first: state,
-                second: 0,
-            },
-        );
-        match self.moves.get(here + number as usize) {
+        let place = self.moves_before(state) + usize::from(number);
+        match self.moves.get(place) {
             Some(step) if step.first == state => step.second,
             _ => 0,
         }
     }
 }
 
+// The counts and truths are answered as the table plan's are: a part that both hold would be asked the same three questions.
 impl<'a> Plan for Ring<'a> {
     ghost system = { ring_of };
 

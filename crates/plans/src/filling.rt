@@ -15,31 +15,23 @@ use ordered::{Pair, pairs_ascend};
 fn sized(states: u16, indices: u8) -> bool
     ensures { result ≡ sized states indices }
 {
-    1 <= states && states <= 256 && 1 <= indices && indices <= 16
+    (1..=256).contains(&states) && (1..=16).contains(&indices)
 }
 
 // Whether every number is below the bound.
 fn all_under(bound: u16, numbers: &[u16]) -> bool
     ensures { result ≡ all_under bound numbers.now }
 {
-    for number in numbers {
-        if *number >= bound {
-            return false;
-        }
-    }
-    true
+    numbers.iter().all(|number| *number < bound)
 }
 
 // Whether the numbers of every pair are below their bounds.
 fn pairs_below(one: u16, two: u16, pairs: &[Pair]) -> bool
     ensures { result ≡ pairs_below one two pairs.now }
 {
-    for pair in pairs {
-        if pair.first >= one || pair.second >= two {
-            return false;
-        }
-    }
-    true
+    pairs
+        .iter()
+        .all(|pair| pair.first < one && pair.second < two)
 }
 
 fn truths_fit(states: u16, truths: &[Pair]) -> bool
@@ -64,15 +56,14 @@ fn check_tables(
 ) -> Result<(), PlanRefusal>
     ensures { MatchResult result (λ _. first_of (table_causes states indices targets.now truths.now moves.now) ≡ None) (λ e. first_of (table_causes states indices targets.now truths.now moves.now) ≡ Some (plan_number e)) }
 {
-    let used = states as usize * indices as usize;
-    if targets.len() < used {
-        return Err(PlanRefusal::TableTooShort);
-    }
+    let used = targets
+        .get(..usize::from(states) * usize::from(indices))
+        .ok_or(PlanRefusal::TableTooShort)?;
     if !pairs_ascend(truths) || !pairs_ascend(moves) {
         return Err(PlanRefusal::NotAscending);
     }
     if !sized(states, indices)
-        || !all_under(states, &targets[0..used])
+        || !all_under(states, used)
         || !truths_fit(states, truths)
         || !moves_fit(states, moves)
     {
@@ -119,7 +110,7 @@ impl<'a> TablePlan<'a> {
     }
 }
 
-// The first cause against a ring.
+// The first cause against a ring. No part is shared with the tables: a cause of the order goes before every cause of the range.
 fn check_ring(states: u16, indices: u8, back: u16, truths: &[Pair]) -> Result<(), PlanRefusal>
     ensures { MatchResult result (λ _. first_of (ring_causes states indices back truths.now) ≡ None) (λ e. first_of (ring_causes states indices back truths.now) ≡ Some (plan_number e)) }
 {

@@ -2,11 +2,11 @@
 ghost use Rattle.std.specs.Prelude.{◌≡◌};
 ghost use Rattle.plans.specs.Refusals.{plan_number};
 
-#[derive(Clone, Copy)]
+#[derive(Debug, Clone, Copy, PartialEq, Eq)]
 pub enum PlanRefusal {
-    TableTooShort,
-    NotAscending,
-    OutOfRange,
+    TableTooShort = 6,
+    NotAscending = 9,
+    OutOfRange = 19,
 }
 
 impl PlanRefusal {
@@ -14,10 +14,6 @@ impl PlanRefusal {
     pub fn number(self) -> u8
         ensures { result ≡ plan_number self }
     {
-        match self {
-            PlanRefusal::TableTooShort => 6,
-            PlanRefusal::NotAscending => 9,
-            PlanRefusal::OutOfRange => 19,
-        }
+        self as u8
     }
 }

@@ -5,7 +5,7 @@ use Rattle.plans.proofs.answers.TablePlanPlan.holds.Goals as goal
 pub returns : goal.returns
 returns c =
     let plan = c.args.self.now in
-    let fits = table_fits plan.states plan.indices plan.targets.now plan.truths.now plan.moves.now plan.lawful in
+    let fits = table_fits plan in
     let told = c.listed.ensures fits.truths_up in
     record {
       value = told ∙ truths_answer plan.states c.args.state c.args.atom plan.truths.now fits.truths_fit;
