@@ -5,7 +5,7 @@ ghost use Rattle.calls.specs.Waits.{wait_of};
 use clauses::{Kind, Line, Literal, Scope};
 
 // The moves that it speaks of, and its goal.
-#[derive(Clone, Copy)]
+#[derive(Clone, Copy, PartialEq, Eq, Default)]
 pub struct Wait {
     pub scope: Scope,
     pub goal: Literal,
