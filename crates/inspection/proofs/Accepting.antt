@@ -1,5 +1,5 @@
 -- A step is accepted exactly where a rule of the calculus applies within the limits. Assumes nothing.
-use Rattle.std.proofs.Common.{◌≡◌, ℕ, zero, suc, ◌≤◌, Bool, true, false, cond, not, ◌||◌, leb, List, [], ◌∷◌, ◌++◌, length, is_some, Some, None, Ok, Err, Option, Result, sym, refl, ap, ◌∙◌, true≢false, arith, eqb-true, le-leb, leb-true}
+use Rattle.std.proofs.Common.{◌≡◌, ℕ, ◌≤◌, true, false, cond, not, leb, List, [], ◌∷◌, ◌++◌, length, is_some, Some, None, Ok, Err, Option, Result, sym, refl, ap, ◌∙◌, true≢false, arith, eqb-true, le-leb, leb-true}
 use Rattle.std.specs.Option.{option_map}
 use Rattle.std.specs.List.{AllByRecursion as All}
 use Rattle.std.proofs.lemmas.Bool.{and_from, and_parts, or_from, or_parts}
@@ -24,8 +24,10 @@ use Rattle.calls.specs.Calls.{Call, after, after_by, answer, answer_by, causes, 
 use Rattle.inspection.specs.Told.{told_line}
 use Rattle.calls.specs.Lawful.{lawful, lawful_line}
 use Rattle.calls.specs.Models.{Model}
-use Rattle.calls.specs.Waits.{and_then, held, place_of, same_wait, wait_for, wait_of}
-use Rattle.calls.proofs.Keeping.{all_none, first_so, not_false, second_so}
+use Rattle.calls.specs.Waits.{and_then, place_of, wait_for, wait_of}
+use Rattle.calls.proofs.Keeping.{all_none, not_false}
+use Rattle.inspection.proofs.Finding.{lawful_there}
+use Rattle.inspection.proofs.Given.{held_place}
 use Rattle.inspection.proofs.Making.{lawful_proper, lawful_shaped, wait_clause, waits_held}
 
 -- ---- any call that makes a line
@@ -72,12 +74,6 @@ there (Some x) h = (x, refl)
 nowhere : {X : Type 0} (o : Option X) → is_some o ≡ false → o ≡ None
 nowhere None h = refl
 nowhere (Some x) h = absurd (true≢false h)
-
--- a line that there is is lawful
-lawful_there : (ws : List Wait) (xs : List Line) (n : ℕ) (x : Line) → line_at xs n ≡ Some x → lawful ws xs ≡ true → lawful_line ws x ≡ true
-lawful_there ws [] n x e h = let z : ◌≡◌ {A = ℕ} 0 1 = cc in absurd (omega arith)
-lawful_there ws (y ∷ ys) zero x e h = let same : y ≡ x = cc in ap (lawful_line ws) (sym same) ∙ first_so (lawful_line ws y) (lawful ws ys) h
-lawful_there ws (y ∷ ys) (suc n) x e h = lawful_there ws ys n x e (second_so (lawful_line ws y) (lawful ws ys) h)
 
 -- an ascending list of a set that fits
 fits_length : (xs : List Literal) (S : Set) → ascends xs ≡ true → set_of xs ≡ S → Fits S → length xs ≤ 16
@@ -167,15 +163,6 @@ module _ (m : Model) (n : ℕ) where
 
 -- ---- entering and staying
 
--- a wait that was given out has a place
-held_place : (ws : List Wait) (w : Wait) → held ws w ≡ true → (n : ℕ) × (place_of ws w ≡ Some n)
-held_place [] w h = absurd (true≢false (sym h))
-held_place (v ∷ vs) w h = by-test (same_wait v w) h (held_place vs w)
-  where
-    by-test : (t : Bool) → (t || held vs w) ≡ true → (held vs w ≡ true → (n : ℕ) × (place_of vs w ≡ Some n)) → (n : ℕ) × (cond t (Some 0) (option_map suc (place_of vs w)) ≡ Some n)
-    by-test true h later = (0, refl)
-    by-test false h later = let at = later h in (suc at.0, ap (option_map suc) at.1)
-
 -- a line that waits is a sometime line with one goal
 waiting_for : (k : Kind) (xs : List Literal) (m : ℕ) (w : Wait) → shaped k m (length xs) ≡ true → wait_for k xs ≡ Some w → (k ≡ Sometime w.scope) × (xs ≡ w.goal ∷ [])
 waiting_for Start xs m w h e = let z : ◌≡◌ {A = ℕ} 0 1 = cc in absurd (omega arith)
@@ -198,7 +185,7 @@ waits_there : (ws : List Wait) (x : Line) → lawful_line ws x ≡ true → is_s
 waits_there ws x h some =
     let w = there (wait_of x) some in
     let parts = waiting_for x.kind (literals x.right) (length (literals x.left)) w.0 (lawful_shaped ws x h) w.1 in
-    let place = held_place ws w.0 (waits_held ws x w.0 h w.1) in
+    let place = there (place_of ws w.0) (sym (held_place ws w.0) ∙ waits_held ws x w.0 h w.1) in
     record { what = w.0; literal = wait_literal place.0; waits = w.1; given = sym (ap (option_map wait_literal) place.1); kind = parts.0; goal = parts.1 }
 
 -- the literal by which a line waits is that of its wait

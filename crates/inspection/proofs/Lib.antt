@@ -5,3 +5,4 @@ pub mod Given
 pub mod Lowest
 pub mod Making
 pub mod Overlays
+pub mod Finding

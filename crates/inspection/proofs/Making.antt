@@ -1,5 +1,5 @@
 -- Lines made by steps are lawful, and have place. Assumes nothing.
-use Rattle.std.proofs.Common.{◌≡◌, ℕ, ◌≤◌, Bool, true, false, cond, not, ◌&&◌, eqb, leb, List, [], ◌∷◌, length, is_some, Some, None, Ok, Err, Option, Result, sym, refl, ap, ◌∙◌, subst, true≢false, arith, eqb-true, le-leb, leb-true, MatchResult}
+use Rattle.std.proofs.Common.{◌≡◌, ℕ, ◌≤◌, Bool, true, false, cond, not, ◌&&◌, eqb, leb, List, [], ◌∷◌, length, is_some, Some, None, Ok, Err, Option, Result, sym, refl, ap, ◌∙◌, true≢false, arith, eqb-true, le-leb, leb-true, MatchResult}
 use Rattle.std.specs.Option.{option_map}
 use Rattle.clauses.specs.declared.kinds.Kind.{Kind}
 use Rattle.clauses.specs.declared.kinds.Kind.TheVariants.{Start, Global, Step, Sometime}
@@ -17,8 +17,11 @@ use Rattle.clauses.specs.Sides.{ascends, join, opposites, without}
 use Rattle.clauses.specs.Steps.{either_loop, entered_line, entered_right, made, proper, resolved_fits, resolved_left, resolved_line, resolved_right, rewritten_line, stayed_line, wait_literal}
 use Rattle.clauses.proofs.Joining.{join_ascends, join_length, join_none, literals_of, opposites_ascend, opposites_length, pair_ascends, without_ascends}
 use Rattle.calls.specs.declared.waits.Wait.{Wait}
-use Rattle.calls.specs.Calls.{entered_of, resolve_causes, resolved_of, rewrite_causes, stayed_of, wait_causes}
-use Rattle.inspection.specs.Told.{MakesUnder}
+use Rattle.calls.specs.Calls.{entered_of, line_at, resolve_causes, resolved_of, rewrite_causes, stayed_of, wait_causes}
+use Rattle.calls.specs.Models.{Model}
+use Rattle.inspection.specs.declared.steps.Waiter.{Waiter}
+use Rattle.inspection.specs.Held.{MayHave}
+use Rattle.inspection.specs.Told.{Makes, WaiterAt}
 use Rattle.calls.specs.Lawful.{lawful_line, sized, waited}
 use Rattle.calls.specs.Waits.{and_then, held, place_of, wait_for, wait_of}
 use Rattle.calls.proofs.Keeping.{UnderIf, all_none, both, first_so, not_false, second_so}
@@ -167,13 +170,20 @@ resolved_under : (k : ℕ) (x y z : Line) (l : Literal) (o : Option Kind) → Un
 resolved_under k x y z l None h e = let q : ◌≡◌ {A = ℕ} 0 1 = cc in absurd (omega arith)
 resolved_under k x y z l (Some kind) h e = let same : z ≡ resolved_line kind x y l = cc in ap (λ (v : Line). kind_under k v.kind) same ∙ h
 
--- what `resolvent` answers on two lawful lines
-pub resolvent_makes : (k : ℕ) (ws : List Wait) (x y : Line) (l : Literal) (r : Result Line Refusal) → lawful_line ws x ≡ true → lawful_line ws y ≡ true → kind_under k x.kind ≡ true → kind_under k y.kind ≡ true → MatchResult r (λ z. (first_of (resolve_causes [] (Some x) (Some y) l) ≡ None) × (Some z ≡ resolved_of (Some x) (Some y) l)) (λ e. first_of (resolve_causes [] (Some x) (Some y) l) ≡ Some (number_of e)) → MakesUnder r (resolve_causes [] (Some x) (Some y) l) (resolved_of (Some x) (Some y) l) k ws
-resolvent_makes k ws x y l (Ok z) hx hy ux uy h =
+-- what `resolvent` answers on two lines that a model may have
+pub resolvent_makes : (m : Model) (x y : Line) (l : Literal) (r : Result Line Refusal) → MayHave m x → MayHave m y → MatchResult r (λ z. (first_of (resolve_causes [] (Some x) (Some y) l) ≡ None) × (Some z ≡ resolved_of (Some x) (Some y) l)) (λ e. first_of (resolve_causes [] (Some x) (Some y) l) ≡ Some (number_of e)) → Makes r m (resolve_causes [] (Some x) (Some y) l) (resolved_of (Some x) (Some y) l)
+resolvent_makes m x y l (Ok z) hx hy h =
+    let ws = m.waits in
     let none = all_none (resolve_causes [] (Some x) (Some y) l) h.0 in
-    let fits = not_false (resolved_fits x y l) none.1.1.1.0 in
-    ((h.0, h.1, by_kind ws x y z l (joint_kind x.kind y.kind) (joint_plain x.kind y.kind) (joins_shaped x.kind y.kind (literals x.left) (literals y.left) _ _ _ (lawful_shaped ws x hx) (lawful_shaped ws y hy)) (lawful_proper ws x hx) (lawful_proper ws y hy) fits h.1), resolved_under k x y z l (joint_kind x.kind y.kind) (joint_under k x.kind y.kind ux uy) h.1)
-resolvent_makes k ws x y l (Err e) hx hy ux uy h = (h, tt)
+    let fits = not_false (resolved_fits x y l) none.1.1.1.0 in (
+      h.0,
+      h.1,
+      record {
+        lawful = by_kind ws x y z l (joint_kind x.kind y.kind) (joint_plain x.kind y.kind) (joins_shaped x.kind y.kind (literals x.left) (literals y.left) _ _ _ (lawful_shaped ws x hx.lawful) (lawful_shaped ws y hy.lawful)) (lawful_proper ws x hx.lawful) (lawful_proper ws y hy.lawful) fits h.1;
+        indexed = resolved_under m.indices x y z l (joint_kind x.kind y.kind) (joint_under m.indices x.kind y.kind hx.indexed hy.indexed) h.1;
+      },
+    )
+resolvent_makes m x y l (Err e) hx hy h = h
 
 -- ---- rewriting, entering, staying
 
@@ -223,23 +233,35 @@ wait_under k (Sometime s) (g ∷ gs) w e h =
     let same : s ≡ w.scope = cc in
     ap (scope_under k) (sym same) ∙ h
 
-module _ (k : ℕ) (ws : List Wait) (o : Option Line) (x y : Line) (w : Wait) (v : Literal) (there : Some x ≡ o) (waits : wait_of x ≡ Some w) (given : Some v ≡ option_map wait_literal (place_of ws w)) where
-  pub entered_makes : Some y ≡ Some (entered_line x w.goal v) → MakesUnder (Ok y) (wait_causes o) (entered_of ws o) k ws
-  entered_makes e =
-      let same : y ≡ entered_line x w.goal v = cc in
-      subst (λ p. MakesUnder (Ok y) (wait_causes p) (entered_of ws p) k ws) there
-      ((sometime_passes x w waits, e ∙ wait_clause ws x w v (λ u. entered_line x u.goal) waits given, ap (lawful_line ws) same ∙ entered_lawful ws x w.goal v), ap (λ (z : Line). kind_under k z.kind) same)
+module _ (m : Model) (n : ℕ) (w : Waiter) (h : WaiterAt m n w) where
+  pub entered_some : cond (leb (length (entered_right w.line.now w.wait.goal w.literal)) 16) (Some (entered_line w.line.now w.wait.goal w.literal)) None ≡ Some (entered_line w.line.now w.wait.goal w.literal)
+  entered_some = ap (λ b. cond b (Some (entered_line w.line.now w.wait.goal w.literal)) None) (entered_fits m.waits w.line.now w.wait w.wait.goal w.literal h.allowed.lawful h.waits)
 
-  pub stayed_makes : kind_under k x.kind ≡ true → Some y ≡ Some (stayed_line w.scope w.goal v) → MakesUnder (Ok y) (wait_causes o) (stayed_of ws o) k ws
-  stayed_makes under e =
-      let same : y ≡ stayed_line w.scope w.goal v = cc in
-      subst (λ p. MakesUnder (Ok y) (wait_causes p) (stayed_of ws p) k ws) there
-      ((sometime_passes x w waits, e ∙ wait_clause ws x w v (λ u. stayed_line u.scope u.goal) waits given, ap (lawful_line ws) same ∙ stayed_lawful ws w.scope w.goal v), ap (λ (z : Line). kind_under k z.kind) same ∙ wait_under k x.kind (literals x.right) w waits under)
+  pub entered_makes : (y : Line) → Some y ≡ Some (entered_line w.line.now w.wait.goal w.literal) → Makes (Ok y) m (wait_causes (line_at m.lines n)) (entered_of m.waits (line_at m.lines n))
+  entered_makes y e =
+      let same : y ≡ entered_line w.line.now w.wait.goal w.literal = cc in
+      rw h.there (
+        sometime_passes w.line.now w.wait h.waits,
+        e ∙ wait_clause m.waits w.line.now w.wait w.literal (λ u. entered_line w.line.now u.goal) h.waits h.given,
+        record {
+          lawful = ap (lawful_line m.waits) same ∙ entered_lawful m.waits w.line.now w.wait.goal w.literal;
+          indexed = ap (λ (z : Line). kind_under m.indices z.kind) same;
+        },
+      )
+
+  pub stayed_makes : (y : Line) → Some y ≡ Some (stayed_line w.wait.scope w.wait.goal w.literal) → Makes (Ok y) m (wait_causes (line_at m.lines n)) (stayed_of m.waits (line_at m.lines n))
+  stayed_makes y e =
+      let same : y ≡ stayed_line w.wait.scope w.wait.goal w.literal = cc in
+      rw h.there (
+        sometime_passes w.line.now w.wait h.waits,
+        e ∙ wait_clause m.waits w.line.now w.wait w.literal (λ u. stayed_line u.scope u.goal) h.waits h.given,
+        record {
+          lawful = ap (lawful_line m.waits) same ∙ stayed_lawful m.waits w.wait.scope w.wait.goal w.literal;
+          indexed = ap (λ (z : Line). kind_under m.indices z.kind) same ∙ wait_under m.indices w.line.now.kind (literals w.line.now.right) w.wait h.waits h.allowed.indexed;
+        },
+      )
 
 -- what `rewritten` answers on a line
-pub rewritten_makes : (k : ℕ) (ws : List Wait) (o : Option Line) (x : Line) (r : Result Line Refusal) → Some x ≡ o → MatchResult r (λ y. (first_of (rewrite_causes (Some x)) ≡ None) × (y ≡ rewritten_line x)) (λ e. first_of (rewrite_causes (Some x)) ≡ Some (number_of e)) → MakesUnder r (rewrite_causes o) (option_map rewritten_line o) k ws
-rewritten_makes k ws o x (Ok y) there h = subst (λ p. MakesUnder (Ok y) (rewrite_causes p) (option_map rewritten_line p) k ws) there ((h.0, ap Some h.1, ap (lawful_line ws) h.1 ∙ rewritten_lawful ws x), ap (λ (z : Line). kind_under k z.kind) h.1)
-rewritten_makes k ws o x (Err e) there h = subst (λ p. MakesUnder (Err e) (rewrite_causes p) (option_map rewritten_line p) k ws) there (h, tt)
-
-pub fits_some : (x : Line) (g v : Literal) → leb (length (entered_right x g v)) 16 ≡ true → cond (leb (length (entered_right x g v)) 16) (Some (entered_line x g v)) None ≡ Some (entered_line x g v)
-fits_some x g v fits = ap (λ b. cond b (Some (entered_line x g v)) None) fits
+pub rewritten_makes : (m : Model) (x : Line) (r : Result Line Refusal) → MatchResult r (λ y. (first_of (rewrite_causes (Some x)) ≡ None) × (y ≡ rewritten_line x)) (λ e. first_of (rewrite_causes (Some x)) ≡ Some (number_of e)) → Makes r m (rewrite_causes (Some x)) (option_map rewritten_line (Some x))
+rewritten_makes m x (Ok y) h = (h.0, ap Some h.1, record { lawful = ap (lawful_line m.waits) h.1 ∙ rewritten_lawful m.waits x; indexed = ap (λ (z : Line). kind_under m.indices z.kind) h.1 })
+rewritten_makes m x (Err e) h = h

@@ -17,6 +17,6 @@ impl<'a> Inspection<'a> {
         ensures exactly { IfOk result (Exactly (P.Plan.system plan.now) (model_of self.now).lines) }
         ensures marks { MatchResult result (λ _. marks.new ≡ replicate (P.Plan.system plan.now).states 0 ++ drop (P.Plan.system plan.now).states marks.old) (λ _. marks.new ≡ marks.old) }
     {
-        judge_rules(plan, self.indices, &self.lines[0..self.made], marks)
+        judge_rules(plan, self.indices, &self.lines[..self.made], marks)
     }
 }

@@ -5,7 +5,6 @@ pub mod examples;
 pub mod judged;
 pub mod opening;
 pub mod rules;
-mod sharing;
 pub mod state;
 pub mod steps;
 mod table;

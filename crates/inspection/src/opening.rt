@@ -10,6 +10,7 @@ use crate::waits::Waits;
 use clauses::{Line, Refusal};
 
 // An index count and a table's length that an inspection may have.
+// Apart from `Inspection`, since no function answers a Result of a struct that holds the lent table.
 #[derive(Clone, Copy)]
 pub struct Opening {
     indices: u8,

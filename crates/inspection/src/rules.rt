@@ -1,9 +1,6 @@
 // The call that adds a rule.
-ghost use Rattle.std.specs.Prelude.{◌≡◌};
-ghost use Rattle.calls.specs.Calls.{Call, after, answer};
-ghost use Rattle.inspection.specs.Told.{told_line};
-ghost use Rattle.calls.specs.Models.{overlay};
-ghost use Rattle.inspection.specs.Held.{model_of};
+ghost use Rattle.calls.specs.Calls.{Call};
+ghost use Rattle.inspection.specs.Told.{Does, told_line};
 
 use crate::state::Inspection;
 use calls::Wait;
@@ -12,6 +9,7 @@ use clauses::{Literal, Refusal};
 
 impl<'a> Inspection<'a> {
     // Adds the rule of a kind's number, an index and two sides, and answers its line.
+    // The kind is a number, since this call itself refuses one that names no kind.
     pub fn rule(
         &mut self,
         kind: u8,
@@ -19,10 +17,7 @@ impl<'a> Inspection<'a> {
         left: &[Literal],
         right: &[Literal],
     ) -> Result<usize, Refusal>
-        ensures answer { told_line result ≡ answer (model_of self.old) (Call.rule kind index left.now right.now) }
-        ensures after { model_of self.new ≡ after (model_of self.old) (Call.rule kind index left.now right.now) }
-        ensures table { self.new.lines.now ≡ overlay (model_of self.new).lines self.old.lines.now }
-        ensures lent { self.new.lines.ghost_name ≡ self.old.lines.ghost_name }
+        ensures { Does (told_line result) (Call.rule kind index left.now right.now) self.old self.new }
     {
         let line = rule_line(self.indices, kind, index, left, right)?;
         self.has_room()?;

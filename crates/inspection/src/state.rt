@@ -7,6 +7,8 @@ use crate::waits::Waits;
 use clauses::Line;
 
 // The first `made` lines of the table are made; those beyond are the caller's.
+// A count beside the table, since the table is the caller's memory, and no byte beyond the count may change.
+// No `Model`, since its value would be these fields again: callers match the lines made with the front of the table.
 #[derive(Drop)]
 pub struct Inspection<'a> {
     pub(crate) indices: u8,

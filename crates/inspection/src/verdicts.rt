@@ -5,9 +5,11 @@ ghost use Rattle.inspection.specs.Told.{Lowest, told_verdict};
 ghost use Rattle.inspection.specs.Held.{model_of};
 
 use crate::state::Inspection;
+use clauses::Line;
 
 // Impossible names the lowest line that no system keeps.
-#[derive(Clone, Copy)]
+// Not an Option, since the two answers are words of the report.
+#[derive(Debug, Clone, Copy, PartialEq, Eq)]
 pub enum Verdict {
     Impossible(usize),
     Undecided,
@@ -19,12 +21,9 @@ impl<'a> Inspection<'a> {
         ensures answer { told_verdict result ≡ answer (model_of self.now) Call.verdict }
         ensures lowest { Lowest (model_of self.now).lines result }
     {
-        let lines = &*self.lines;
-        for i in 0..self.made {
-            if lines[i].refutes() {
-                return Verdict::Impossible(i);
-            }
-        }
-        Verdict::Undecided
+        self.lines[..self.made]
+            .iter()
+            .position(Line::refutes)
+            .map_or(Verdict::Undecided, Verdict::Impossible)
     }
 }

@@ -1,43 +1,13 @@
-use Rattle.std.proofs.Common.{sym, refl, ap, ◌∙◌}
-use Rattle.std.proofs.lemmas.Result.{err_from_is_err_and}
-use Rattle.clauses.specs.Refusals.{number_of}
-use Rattle.calls.specs.Calls.{enter, entered_of, line_at, refused, wait_causes}
-use Rattle.inspection.specs.Told.{told_line}
+use Rattle.std.proofs.Common.{rules}
+use Rattle.calls.specs.Calls.{enter}
+use Rattle.inspection.specs.Told.{Does, told_line}
 use Rattle.inspection.specs.Held.{model_of}
 use Rattle.inspection.proofs.Accepting.{enter_calculus}
-use Rattle.inspection.proofs.Adding.{made_after, made_answer, not_made}
-use Rattle.inspection.proofs.Overlays.{overlay_same}
 use Rattle.inspection.proofs.state.Inspection.enter.Goals as goal
-
-pub returns-in_err-line : goal.returns-in_err-line
-returns-in_err-line c =
-    let s = c.args.self.now in
-    let m = model_of s in
-    let p = err_from_is_err_and c.from_residual.result c.from_residual.ensures.1 in
-    let out = not_made m (enter c.args.number) (wait_causes (line_at m.lines c.args.number)) (entered_of m.waits (line_at m.lines c.args.number)) refl _ c.in_err-line.ensures.0 in
-    let told = ap told_line p.1 ∙ ap (λ e. refused (number_of e)) p.2 ∙ sym out.0 in
-    record {
-      answer = told;
-      after = sym out.1;
-      table = sym (overlay_same s.lines.now s.made);
-      lent = refl;
-      calculus = enter_calculus m c.args.self.now.lawful c.args.number _ m told (sym out.1);
-    }
-
-pub store-requires : goal.store-requires
-store-requires c = record { lawful = c.in_ok-line.ensures.0.2; indexed = c.in_ok-line.ensures.1 }
 
 pub returns : goal.returns
 returns c =
-    let m = model_of c.args.self.now in
-    let made = c.in_ok-line.ensures.0 in
-    let stored = c.store.ensures in
-    let told = stored.answer ∙ made_answer m (enter c.args.number) (wait_causes (line_at m.lines c.args.number)) (entered_of m.waits (line_at m.lines c.args.number)) refl refl made.0 in
-    let left = stored.after ∙ made_after m (enter c.args.number) (wait_causes (line_at m.lines c.args.number)) (entered_of m.waits (line_at m.lines c.args.number)) refl c.in_ok-line.line refl made.0 made.1 in
-    record {
-      answer = told;
-      after = left;
-      table = stored.table;
-      lent = stored.lent;
-      calculus = enter_calculus m c.args.self.now.lawful c.args.number _ _ told left;
-    }
+    let s = c.args.self.now in
+    let m = model_of s in
+    let does : Does (told_line c.store.result) (enter c.args.number) s c.store.new.self = search rules in
+    record { does = does; calculus = enter_calculus m s.lawful c.args.number _ _ does.answer does.after }

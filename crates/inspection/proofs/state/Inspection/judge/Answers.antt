@@ -1,4 +1,4 @@
-use Rattle.std.proofs.Common.{◌≡◌, ◌-◌, length, take, ap, arith}
+use Rattle.std.proofs.Common.{length, refl}
 use Rattle.inspection.specs.Held.{model_of}
 use Rattle.inspection.proofs.Ruling.{judge_answer, judge_exactly}
 use Rattle.inspection.proofs.state.Inspection.judge.Goals as goal
@@ -7,11 +7,9 @@ pub returns : goal.returns
 returns g c =
     let s = c.args.self.now in
     let sys = g.P.Plan.system c.args.plan.now in
-    let all : s.made - 0 ≡ s.made = omega arith in
-    let rules : take (s.made - 0) s.lines.now ≡ take s.made s.lines.now = ap (λ n. take n s.lines.now) all in
     let told = c.judge_rules.ensures in
     record {
-      answer = judge_answer (model_of s) sys (length c.args.marks.now) s.indexed _ rules c.judge_rules.result told.answer;
-      exactly = judge_exactly (model_of s) sys (length c.args.marks.now) s.indexed _ rules c.judge_rules.result told.answer told.exactly;
+      answer = judge_answer (model_of s) sys (length c.args.marks.now) s.indexed _ refl c.judge_rules.result told.answer;
+      exactly = judge_exactly (model_of s) sys (length c.args.marks.now) s.indexed _ refl c.judge_rules.result told.answer told.exactly;
       marks = told.marks;
     }

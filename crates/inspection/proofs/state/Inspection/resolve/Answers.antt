@@ -1,43 +1,23 @@
-use Rattle.std.proofs.Common.{sym, refl, ap, ◌∙◌}
-use Rattle.std.proofs.lemmas.Result.{err_from_is_err_and}
-use Rattle.clauses.specs.Refusals.{number_of}
-use Rattle.calls.specs.Calls.{resolve, line_at, refused, resolve_causes, resolved_of}
+use Rattle.std.proofs.Common.{refl}
+use Rattle.calls.specs.Calls.{line_at, resolve, resolve_causes, resolved_of}
 use Rattle.inspection.specs.Told.{told_line}
 use Rattle.inspection.specs.Held.{model_of}
 use Rattle.inspection.proofs.Accepting.{resolve_calculus}
-use Rattle.inspection.proofs.Adding.{made_after, made_answer, not_made}
-use Rattle.inspection.proofs.Overlays.{overlay_same}
+use Rattle.inspection.proofs.Adding.{made, not_made}
 use Rattle.inspection.proofs.state.Inspection.resolve.Goals as goal
 
 pub returns-in_err-line : goal.returns-in_err-line
 returns-in_err-line c =
     let s = c.args.self.now in
     let m = model_of s in
-    let p = err_from_is_err_and c.from_residual.result c.from_residual.ensures.1 in
-    let out = not_made m (resolve c.args.a c.args.b c.args.literal) (resolve_causes m.loops (line_at m.lines c.args.a) (line_at m.lines c.args.b) c.args.literal) (resolved_of (line_at m.lines c.args.a) (line_at m.lines c.args.b) c.args.literal) refl _ c.in_err-line.ensures.0 in
-    let told = ap told_line p.1 ∙ ap (λ e. refused (number_of e)) p.2 ∙ sym out.0 in
-    record {
-      answer = told;
-      after = sym out.1;
-      table = sym (overlay_same s.lines.now s.made);
-      lent = refl;
-      calculus = resolve_calculus m c.args.self.now.lawful c.args.a c.args.b c.args.literal _ m told (sym out.1);
-    }
-
-pub store-requires : goal.store-requires
-store-requires c = record { lawful = c.in_ok-line.ensures.0.2; indexed = c.in_ok-line.ensures.1 }
+    let does = not_made s (resolve c.args.a c.args.b c.args.literal) (resolve_causes m.loops (line_at m.lines c.args.a) (line_at m.lines c.args.b) c.args.literal) refl _ _ c.from_residual.ensures.1 c.in_err-line.ensures in
+    record { does = does; calculus = resolve_calculus m s.lawful c.args.a c.args.b c.args.literal _ _ does.answer does.after }
 
 pub returns : goal.returns
 returns c =
-    let m = model_of c.args.self.now in
-    let made = c.in_ok-line.ensures.0 in
-    let stored = c.store.ensures in
-    let told = stored.answer ∙ made_answer m (resolve c.args.a c.args.b c.args.literal) (resolve_causes m.loops (line_at m.lines c.args.a) (line_at m.lines c.args.b) c.args.literal) (resolved_of (line_at m.lines c.args.a) (line_at m.lines c.args.b) c.args.literal) refl refl made.0 in
-    let left = stored.after ∙ made_after m (resolve c.args.a c.args.b c.args.literal) (resolve_causes m.loops (line_at m.lines c.args.a) (line_at m.lines c.args.b) c.args.literal) (resolved_of (line_at m.lines c.args.a) (line_at m.lines c.args.b) c.args.literal) refl c.in_ok-line.line refl made.0 made.1 in
-    record {
-      answer = told;
-      after = left;
-      table = stored.table;
-      lent = stored.lent;
-      calculus = resolve_calculus m c.args.self.now.lawful c.args.a c.args.b c.args.literal _ _ told left;
-    }
+    let s = c.args.self.now in
+    let m = model_of s in
+    let x = line_at m.lines c.args.a in
+    let y = line_at m.lines c.args.b in
+    let does = made s (resolve c.args.a c.args.b c.args.literal) (resolve_causes m.loops x y c.args.literal) refl (resolved_of x y c.args.literal) c.store.new.self (told_line c.store.result) c.in_ok-line.line refl refl c.in_ok-line.ensures c.store.ensures in
+    record { does = does; calculus = resolve_calculus m s.lawful c.args.a c.args.b c.args.literal _ _ does.answer does.after }
