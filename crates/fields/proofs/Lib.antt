@@ -1,2 +1,2 @@
-pub mod Parts
+pub mod Reading
 pub mod Written

@@ -2,7 +2,6 @@
 use Rattle.std.specs.Prelude.{ℕ, ◌+◌, ◌*◌, Bool, cond, not, ◌&&◌, List, [], ◌∷◌, length, take, drop, Some, None, Ok, Err, Option, Result, ◌==◌, nat_le, slice_index}
 use Rattle.std.specs.Option.{option_map}
 use Rattle.fields.specs.declared.flaws.Flaw.{Flaw}
-use Rattle.fields.specs.declared.flaws.Flaw.TheVariants.{WrongLength}
 use Rattle.fields.specs.declared.shapes.Field.{Field}
 use Rattle.fields.specs.declared.shapes.Source.{Source}
 use Rattle.fields.specs.declared.shapes.Source.TheVariants.{Book, Work}
@@ -83,10 +82,6 @@ table_plan_of k value = and_then (numbered value) (λ n. and_then (cut (2 * n.0 
 -- the value of a ring: states, the return state and truths
 abbrev pub ring_of : List ℕ → Option Shown
 ring_of value = and_then (numbered value) (λ n. and_then (numbered n.1) (λ b. option_map (ring n.0 b.0) (last_pairs b.1)))
-
-abbrev pub or_wrong : {X : Type 0} → Option X → Result X Flaw
-or_wrong None = Err WrongLength
-or_wrong (Some x) = Ok x
 
 abbrev pub or_length : Option Shown → Result Shown ℕ
 or_length None = Err 3

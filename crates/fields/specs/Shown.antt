@@ -128,3 +128,9 @@ Short (enter n) = Unit {0}
 Short (stay n) = Unit {0}
 Short (table_plan n targets truths moves) = (length targets ≤ 65535) × (length truths ≤ 65535) × (length moves ≤ 65535)
 Short (ring n back truths) = length truths ≤ 65535
+
+-- a field that is read of a tag and a value: they are how it is written, it is whole in the sense of P, and no part of it is long
+pub record Reads (P : Shown → Type 0) (tag : ℕ) (value : List ℕ) (f : Shown) : Type 0 where
+  pub sound : Says f tag value
+  pub whole : P f
+  pub short : Short f

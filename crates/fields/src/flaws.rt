@@ -2,16 +2,17 @@
 ghost use Rattle.std.specs.Prelude.{◌≡◌};
 ghost use Rattle.fields.specs.Flaws.{flaw_number};
 
-#[derive(Clone, Copy)]
+// Each flaw with its number.
+#[derive(Debug, Clone, Copy, PartialEq, Eq)]
 pub enum Flaw {
-    PastEnd,
-    UnknownTag,
-    WrongLength,
-    MisplacedBegin,
+    PastEnd = 1,
+    UnknownTag = 2,
+    WrongLength = 3,
+    MisplacedBegin = 4,
 }
 
 // A flaw, and the offset of the field's tag byte in its file.
-#[derive(Clone, Copy)]
+#[derive(Debug, Clone, Copy, PartialEq, Eq)]
 pub struct ReaderFault {
     pub flaw: Flaw,
     pub offset: usize,
@@ -22,11 +23,13 @@ impl Flaw {
     pub fn number(self) -> u8
         ensures { result ≡ flaw_number self }
     {
-        match self {
-            Flaw::PastEnd => 1,
-            Flaw::UnknownTag => 2,
-            Flaw::WrongLength => 3,
-            Flaw::MisplacedBegin => 4,
-        }
+        self as u8
+    }
+
+    // The fault of a field at an offset.
+    pub(crate) fn at(self, offset: usize) -> ReaderFault
+        ensures { (result.flaw ≡ self) × (result.offset ≡ offset) }
+    {
+        ReaderFault { flaw: self, offset }
     }
 }

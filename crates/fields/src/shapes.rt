@@ -1,14 +1,14 @@
 // The files, and the fields that they hold.
 
 // Which file is read; a work's layouts may depend on the count of indices.
-#[derive(Clone, Copy)]
+#[derive(Debug, Clone, Copy, PartialEq, Eq)]
 pub enum Source {
     Book,
     Work { indices: u8 },
 }
 
 // A field as it lies in the input: a literal and a target have two bytes, a truth and a free move four, and a line is told by its number.
-#[derive(Clone, Copy)]
+#[derive(Debug, Clone, Copy, PartialEq, Eq)]
 pub enum Field<'a> {
     Begin {
         indices: u8,

@@ -51,34 +51,20 @@ impl<'a> Reader<'a> {
         ensures sound { Shows result (λ f. ahead self.old ≡ bytes_of f ++ ahead self.new) }
         ensures complete { (f : Shown) (rest : List ℕ) → ahead self.old ≡ bytes_of f ++ rest → Fitting f → stands self.old.source self.old.place f ≡ true → told result self.new.place ≡ shows f (self.old.place + length (bytes_of f)) }
     {
-        let Reader {
-            bytes,
-            place,
-            source,
-        } = self;
-        let bytes = *bytes;
-        let offset = *place;
-        if offset >= bytes.len() {
-            return match source {
-                Source::Book if offset == 0 => Err(ReaderFault {
-                    flaw: Flaw::MisplacedBegin,
-                    offset,
-                }),
-                Source::Book => Ok(None),
-                Source::Work { .. } => Ok(None),
+        let offset = self.place;
+        if offset >= self.bytes.len() {
+            return match self.source {
+                Source::Book if offset == 0 => Err(Flaw::MisplacedBegin.at(offset)),
+                _ => Ok(None),
             };
         }
-        let Some((tag, value)) = layouts::split_field(&bytes[offset..]) else {
-            *place = bytes.len();
-            return Err(ReaderFault {
-                flaw: Flaw::PastEnd,
-                offset,
-            });
+        let Some((tag, value)) = layouts::split_field(&self.bytes[offset..]) else {
+            self.place = self.bytes.len();
+            return Err(Flaw::PastEnd.at(offset));
         };
-        *place = offset + 3 + value.len();
-        match layouts::field_of(*source, offset, tag, value) {
-            Ok(field) => Ok(Some(field)),
-            Err(flaw) => Err(ReaderFault { flaw, offset }),
-        }
+        self.place = offset + 3 + value.len();
+        layouts::field_of(self.source, offset, tag, value)
+            .map(Some)
+            .map_err(|flaw| flaw.at(offset))
     }
 }

@@ -1,25 +1,14 @@
-use Rattle.std.proofs.Common.{◌≡◌, ℕ, ◌≤◌, List, ◌++◌, length, Some, refl, ap, ◌∙◌, subst, arith, Bor, rules}
-use Rattle.fields.specs.Shown.{number_bytes, pair_bytes, plan_bytes}
-use Rattle.fields.proofs.Parts.{cut_is, apart_whole, plan_is, plan_short}
+use Rattle.std.proofs.Common.{◌≡◌, IfSome, Some, Option, sym, subst, arith}
+use Rattle.std.proofs.lemmas.Grind.{common_steps}
+use Rattle.fields.specs.declared.shapes.Source.TheVariants.{Work}
+use Rattle.fields.specs.Shown.{Shown, table_plan, FittingIn, Reads}
+use Rattle.fields.specs.Layouts.{table_plan_of}
+use Rattle.fields.proofs.Reading.{table_plan_reads}
 use Rattle.fields.proofs.layouts.table_plan_field.Goals as goal
 
 pub returns : goal.returns
 returns c =
     let v = c.args.value.now in
-    let n = c.in_ok-states.states in
-    let targets = c.in_ok-targets.targets in
-    let truths = c.in_ok-truths.truths.now in
-    let moves = c.in_ok-moves.moves.now in
-    let first = c.in_ok-states.ensures in
-    let apart = c.in_ok-targets.ensures.cases in
-    let third = c.in_ok-truths.ensures in
-    let last = c.in_ok-moves.ensures in
-    let cut : Bor (List ℕ) × Bor (List ℕ) = (targets, c.in_ok-targets.rest) in
-    let after = apart_whole _ _ cut apart ∙ ap (λ xs. targets.now ++ xs) (third.sound ∙ ap (λ xs. pair_bytes truths ++ xs) last.sound) in
-    let whole : v ≡ plan_bytes n targets.now truths moves = first.sound ∙ ap (λ xs. number_bytes n ++ xs) after in
-    record {
-      value = plan_is c.args.indices v n _ first.value _ _ (cut_is _ _ (Some cut) apart) truths _ third.value _ last.value;
-      short = plan_short n targets.now truths moves (subst (λ xs. length xs ≤ 65535) whole c.requires);
-      sound = (refl, whole);
-      whole = (search rules, apart.3, third.whole, last.whole, omega (arith, ap length whole));
-    }
+    let k = c.args.indices in
+    let is : Some (table_plan c.in_ok-states.states c.in_ok-targets.targets.now c.in_ok-truths.truths.now c.in_ok-moves.moves.now) ≡ table_plan_of k v = grind (arith, common_steps) in
+    record { value = is; read = subst (λ (o : Option Shown). IfSome o (Reads (FittingIn (Work k)) 13 v)) (sym is) (table_plan_reads k v c.requires (λ j. omega (arith, c.type_inv.value j))) }
