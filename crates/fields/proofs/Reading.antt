@@ -1,5 +1,5 @@
 -- What is read of bytes is written as them, and is whole and short. Assumes nothing.
-use Rattle.std.proofs.Common.{◌≡◌, ℕ, suc, ◌+◌, ◌*◌, ◌/◌, ◌%◌, ◌<◌, ◌≤◌, Bool, true, false, nat_le, cond, eqb, List, [], ◌∷◌, ◌++◌, length, get_or, drop, IfSome, IfOk, Some, None, Ok, Err, Option, Result, sym, refl, ap, ◌∙◌, subst, append-nil, arith}
+use Rattle.std.proofs.Common.{◌≡◌, ℕ, suc, ◌+◌, ◌*◌, ◌/◌, ◌%◌, ◌<◌, ◌≤◌, Bool, true, false, nat_le, cond, eqb, List, [], ◌∷◌, ◌++◌, length, get_or, drop, IfSome, IfOk, Some, None, Ok, Err, Option, Result, sym, refl, ap, ◌∙◌, subst, append-nil, arith, Fits, w8}
 use Rattle.std.proofs.lemmas.List.{length-append, length-take-le, take-append-drop, drop_at, nil_from_length, get_or-append-add}
 use Rattle.std.proofs.lemmas.Bool.{leb-true, eqb-true}
 use Rattle.std.specs.Option.{option_map}
@@ -12,7 +12,7 @@ use Rattle.fields.specs.Layouts.{and_then, cut, split, counted, ends, begin_of, 
 
 -- each number of a list is a byte
 abbrev pub Bytes : List ℕ → Type 0
-Bytes xs = (k : ℕ) → get_or xs k 0 < 256
+Bytes xs = (k : ℕ) → Fits w8 (get_or xs k 0)
 
 -- what holds of a second thing that is read, where it follows from what holds of the first
 pub then_reads : {X Y : Type 0} (o : Option X) (f : X → Option Y) (P : X → Type 0) (Q : Y → Type 0) → IfSome o P → ((x : X) → P x → IfSome (f x) Q) → IfSome (and_then o f) Q
@@ -28,16 +28,20 @@ pub test_reads : {X : Type 0} (b : Bool) (x : X) (Q : X → Type 0) → (b ≡ t
 test_reads true x Q h = h refl
 test_reads false x Q h = tt
 
+-- what holds of whatever is read
+of_read : {X : Type 0} (o : Option X) (P : X → Type 0) → IfSome o P → (x : X) → Some x ≡ o → P x
+of_read {X} o P h x is = subst (λ (o : Option X). IfSome o P) (sym is) h
+
 -- the bytes behind a part
 bytes_after : (bs a b : List ℕ) → bs ≡ a ++ b → Bytes bs → Bytes b
-bytes_after bs a b e all k = omega (arith, get_or-append-add a b k 0, ap (λ xs. get_or xs (length a + k) 0) e, all (length a + k))
+bytes_after bs a b e all k = subst (λ n. Fits w8 n) (ap (λ xs. get_or xs (length a + k) 0) e ∙ get_or-append-add a b k 0) (all (length a + k))
 
 -- a cut gives two parts that are the whole
 pub cut_reads : (n : ℕ) (bs : List ℕ) → IfSome (cut n bs) (λ p. (length p.0 ≡ n) × (bs ≡ p.0 ++ p.1))
 cut_reads n bs = test_reads _ _ (λ p. (length p.0 ≡ n) × (bs ≡ p.0 ++ p.1)) (λ fits. (length-take-le n bs (leb-true _ _ fits), sym (take-append-drop n bs)))
 
 -- two bytes are a number
-number_reads : (h l : ℕ) → h < 256 → l < 256 → (h * 256 + l < 65536) × (h ∷ l ∷ [] ≡ number_bytes (h * 256 + l))
+number_reads : (h l : ℕ) → Fits w8 h → Fits w8 l → (h * 256 + l < 65536) × (h ∷ l ∷ [] ≡ number_bytes (h * 256 + l))
 number_reads h l high low =
     let top : h ≡ (h * 256 + l) / 256 = omega arith in
     let under : l ≡ (h * 256 + l) % 256 = omega arith in
@@ -51,21 +55,26 @@ numbered_reads (h ∷ l ∷ bs) all =
     (n.0, ap (λ xs. xs ++ bs) n.1)
 
 -- a whole field
-pub split_reads : (bs : List ℕ) → Bytes bs → IfSome (split bs) (λ t. (bs ≡ written t.0 t.1 ++ drop (3 + length t.1) bs) × (length t.1 ≤ 65535))
+-- a tag and a value stand in front of the bytes, and the value isn't long
+abbrev Front : List ℕ → ℕ × List ℕ → Type 0
+Front bs w = (bs ≡ written w.0 w.1 ++ drop (3 + length w.1) bs) × (length w.1 ≤ 65535)
+
+split_reads : (bs : List ℕ) → Bytes bs → IfSome (split bs) (Front bs)
 split_reads [] all = tt
-split_reads (t ∷ []) all = tt
-split_reads (t ∷ h ∷ []) all = tt
-split_reads (t ∷ h ∷ l ∷ bs) all = map_reads _ _ _ _ (cut_reads (h * 256 + l) bs) whole
+split_reads (t ∷ bs) all = then_reads _ _ _ _ (numbered_reads bs (λ k. all (suc k))) value
   where
-    whole : (p : List ℕ × List ℕ) → (length p.0 ≡ h * 256 + l) × (bs ≡ p.0 ++ p.1) → ◌≡◌ {A = List ℕ} (t ∷ h ∷ l ∷ bs) (written t p.0 ++ drop (3 + length p.0) (t ∷ h ∷ l ∷ bs)) × (length p.0 ≤ 65535)
-    whole p parts =
-        let high : h < 256 = all 1 in
-        let low : l < 256 = all 2 in
-        let top : h ≡ length p.0 / 256 = omega arith in
-        let under : l ≡ length p.0 % 256 = omega arith in
+    value : (n : ℕ × List ℕ) → (n.0 < 65536) × (bs ≡ number_bytes n.0 ++ n.1) → IfSome (option_map (λ p. (t, p.0)) (cut n.0 n.1)) (Front (t ∷ bs))
+    value n first = map_reads _ _ _ (Front (t ∷ bs)) (cut_reads n.0 n.1) (λ (p : List ℕ × List ℕ) (parts : (length p.0 ≡ n.0) × (n.1 ≡ p.0 ++ p.1)).
         let three : 3 + length p.0 ≡ suc (suc (suc (length p.0))) = omega arith in
-        let past : drop (3 + length p.0) (t ∷ h ∷ l ∷ bs) ≡ p.1 = (λ i. drop (three i) (t ∷ h ∷ l ∷ parts.1 i)) ∙ drop_at p.0 p.1 (length p.0) refl in
-        ((λ i. t ∷ top i ∷ under i ∷ (parts.1 ∙ ap (λ xs. p.0 ++ xs) (sym past)) i), omega arith)
+        let whole : bs ≡ number_bytes (length p.0) ++ (p.0 ++ p.1) = first.1 ∙ (λ i. number_bytes (sym parts.0 i) ++ parts.1 i) in
+        let past : drop (3 + length p.0) (t ∷ bs) ≡ p.1 = (λ i. drop (three i) (t ∷ whole i)) ∙ drop_at p.0 p.1 (length p.0) refl in
+        ((λ i. t ∷ whole i) ∙ ap (λ xs. written t p.0 ++ xs) (sym past), omega (arith, first.0, parts.0)))
+
+pub split_front : (bs : List ℕ) → Bytes bs → (t : ℕ) (v : List ℕ) → Some (t, v) ≡ split bs → bs ≡ written t v ++ drop (3 + length v) bs
+split_front bs all t v is = (of_read (split bs) _ (split_reads bs all) (t, v) is).0
+
+pub split_short : (bs : List ℕ) → Bytes bs → (t : ℕ) (v : List ℕ) → Some (t, v) ≡ split bs → length v ≤ 65535
+split_short bs all t v is = (of_read (split bs) _ (split_reads bs all) (t, v) is).1
 
 -- a side of a rule
 pub counted_reads : (bs : List ℕ) → Bytes bs → IfSome (counted bs) (λ p. Paired p.0 × (length p.0 ≤ 510) × (bs ≡ side_bytes p.0 ++ p.1))
@@ -75,7 +84,7 @@ counted_reads (n ∷ bs) all = side (cut (2 * n) bs) (cut_reads (2 * n) bs)
     side : (o : Option (List ℕ × List ℕ)) → IfSome o (λ p. (length p.0 ≡ 2 * n) × (bs ≡ p.0 ++ p.1)) → IfSome o (λ p. Paired p.0 × (length p.0 ≤ 510) × ◌≡◌ {A = List ℕ} (n ∷ bs) (side_bytes p.0 ++ p.1))
     side None parts = tt
     side (Some p) parts =
-        let few : n < 256 = all 0 in
+        let few : n < 256 = omega (arith, all 0) in
         let half : n ≡ length p.0 / 2 = omega arith in
         ((n, parts.0), omega arith, λ i. half i ∷ parts.1 i)
 
@@ -148,6 +157,9 @@ ring_reads k v all few = then_reads _ _ _ (Reads (FittingIn (Work k)) 14 v) (num
         let read : Reads (FittingIn (Work k)) 14 v (ring n.0 b.0 ps) = record { sound = (refl, whole); whole = (first.0, next.0, last.0, fits); short = omega arith } in
         read))
 
+pub ring_shown : (k : ℕ) (v : List ℕ) → Bytes v → length v ≤ 65535 → (f : Shown) → Some f ≡ ring_of v → Reads (FittingIn (Work k)) 14 v f
+ring_shown k v all few = of_read (ring_of v) _ (ring_reads k v all few)
+
 -- the parts of a table plan, one after the other
 module _ (k : ℕ) (v : List ℕ) (few : length v ≤ 65535) where
   moves_read : (n : ℕ) → n < 65536 → (targets truths bs : List ℕ) → length targets ≡ 2 * n * k → WholePairs truths → Bytes bs → v ≡ number_bytes n ++ (targets ++ (pair_bytes truths ++ bs)) → IfSome (option_map (table_plan n targets truths) (last_pairs bs)) (Reads (FittingIn (Work k)) 13 v)
@@ -163,11 +175,14 @@ module _ (k : ℕ) (v : List ℕ) (few : length v ≤ 65535) where
   truths_read n small t wide all so_far = then_reads _ _ _ _ (pairs_reads t.1 all) (λ (u : List ℕ × List ℕ) (third : WholePairs u.0 × (t.1 ≡ pair_bytes u.0 ++ u.1)).
       moves_read n small t.0 u.0 u.1 wide third.0 (bytes_after t.1 (pair_bytes u.0) u.1 third.1 all) (so_far ∙ ap (λ xs. number_bytes n ++ (t.0 ++ xs)) third.1))
 
-  pub table_plan_reads : Bytes v → IfSome (table_plan_of k v) (Reads (FittingIn (Work k)) 13 v)
+  table_plan_reads : Bytes v → IfSome (table_plan_of k v) (Reads (FittingIn (Work k)) 13 v)
   table_plan_reads all = then_reads _ _ _ _ (numbered_reads v all) (λ (n : ℕ × List ℕ) (first : (n.0 < 65536) × (v ≡ number_bytes n.0 ++ n.1)).
       let more = bytes_after v (number_bytes n.0) n.1 first.1 all in
       then_reads _ _ _ _ (cut_reads (2 * n.0 * k) n.1) (λ (t : List ℕ × List ℕ) (second : (length t.0 ≡ 2 * n.0 * k) × (n.1 ≡ t.0 ++ t.1)).
       truths_read n.0 first.0 t second.0 (bytes_after n.1 t.0 t.1 second.1 more) (first.1 ∙ ap (λ xs. number_bytes n.0 ++ xs) second.1)))
+
+  pub table_plan_shown : Bytes v → (f : Shown) → Some f ≡ table_plan_of k v → Reads (FittingIn (Work k)) 13 v f
+  table_plan_shown all = of_read (table_plan_of k v) _ (table_plan_reads all)
 
 -- a field of a tag and a value
 length_reads : (o : Option Shown) (Q : Shown → Type 0) → IfSome o Q → IfOk (or_length o) Q

@@ -1,12 +1,12 @@
 -- A field that is written is read again. Assumes nothing.
-use Rattle.std.proofs.Common.{◌≡◌, ℕ, ◌+◌, ◌*◌, ◌/◌, ◌%◌, ◌<◌, true, cond, eqb, List, [], ◌∷◌, ◌++◌, length, drop, Some, None, Ok, Err, Result, sym, refl, ap, ◌∙◌, append-nil, arith}
+use Rattle.std.proofs.Common.{◌≡◌, ℕ, ◌+◌, ◌*◌, ◌/◌, ◌%◌, ◌<◌, true, cond, eqb, List, [], ◌++◌, length, drop, Some, None, Ok, Err, Result, sym, ap, ◌∙◌, append-nil, arith}
 use Rattle.std.proofs.lemmas.List.{length-append, length-drop, take_at, drop_at}
 use Rattle.std.proofs.lemmas.Bool.{le-leb, lt-ltb, false≢true}
 use Rattle.std.specs.Option.{option_map}
 use Rattle.fields.specs.declared.shapes.Source.{Source}
 use Rattle.fields.specs.declared.shapes.Source.TheVariants.{Book, Work}
 use Rattle.fields.specs.Shown.{Shown, begin, rule, resolve, rewrite, enter, stay, table_plan, ring, tag_of, value_of, side_bytes, pair_bytes, plan_bytes, ring_bytes, written, bytes_of, Paired, WholePairs, Fitting}
-use Rattle.fields.specs.Layouts.{and_then, cut, split, counted, ends, numbered, rule_of, pairs, last_pairs, plan_pairs, table_plan_of, ring_of, or_length, layout, stands, placed}
+use Rattle.fields.specs.Layouts.{and_then, cut, split, counted, ends, rule_of, pairs, last_pairs, plan_pairs, table_plan_of, ring_of, or_length, layout, stands, placed}
 use Rattle.fields.specs.Parse.{Parsed, shows, refuses, field_at, with_place, at_end, parse}
 
 -- a whole is cut into its two parts
@@ -16,12 +16,7 @@ cut_at n a b e =
     λ i. cond (fits i) (Some (take_at a b n (sym e) i, drop_at a b n (sym e) i)) None
 
 -- a whole field
-pub split_is : (t : ℕ) (bs : List ℕ) → split (t ∷ bs) ≡ and_then (numbered bs) (λ n. option_map (λ p. (t, p.0)) (cut n.0 n.1))
-split_is t [] = refl
-split_is t (h ∷ []) = refl
-split_is t (h ∷ l ∷ bs) = refl
-
-pub split_written : (t : ℕ) (v rest : List ℕ) → split (written t v ++ rest) ≡ Some (t, v)
+split_written : (t : ℕ) (v rest : List ℕ) → split (written t v ++ rest) ≡ Some (t, v)
 split_written t v rest = ap (option_map (λ p. (t, p.0))) (cut_at (length v / 256 * 256 + length v % 256) v rest (omega arith))
 
 -- the layouts of a book

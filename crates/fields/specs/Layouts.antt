@@ -17,12 +17,16 @@ abbrev pub and_then : {X Y : Type 0} → Option X → (X → Option Y) → Optio
 and_then None f = None
 and_then (Some x) f = f x
 
+-- the number that the bytes begin with, and what follows it
+abbrev pub numbered : List ℕ → Option (ℕ × List ℕ)
+numbered [] = None
+numbered (high ∷ []) = None
+numbered (high ∷ low ∷ bs) = Some (high * 256 + low, bs)
+
 -- the tag and the value of the field that the bytes begin with, where it is whole
 abbrev pub split : List ℕ → Option (ℕ × List ℕ)
 split [] = None
-split (tag ∷ []) = None
-split (tag ∷ high ∷ []) = None
-split (tag ∷ high ∷ low ∷ rest) = option_map (λ p. (tag, p.0)) (cut (high * 256 + low) rest)
+split (tag ∷ bs) = and_then (numbered bs) (λ n. option_map (λ p. (tag, p.0)) (cut n.0 n.1))
 
 -- a side of a rule and what follows it: a count, and two bytes for each counted literal
 abbrev pub counted : List ℕ → Option (List ℕ × List ℕ)
@@ -56,12 +60,6 @@ resolve_of value = cond (length value == 6) (Some (number_at value 0, number_at 
 -- the value of a field that has one line
 abbrev pub line_of : List ℕ → Option ℕ
 line_of value = cond (length value == 2) (Some (number_at value 0)) None
-
--- the number that the bytes begin with, and what follows it
-abbrev pub numbered : List ℕ → Option (ℕ × List ℕ)
-numbered [] = None
-numbered (high ∷ []) = None
-numbered (high ∷ low ∷ bs) = Some (high * 256 + low, bs)
 
 -- the pairs that the bytes begin with, and what follows them: a count, and four bytes for each counted pair
 abbrev pub pairs : List ℕ → Option (List ℕ × List ℕ)
