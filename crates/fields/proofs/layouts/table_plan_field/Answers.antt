@@ -4,4 +4,4 @@ use Rattle.fields.proofs.Reading.{table_plan_shown}
 use Rattle.fields.proofs.layouts.table_plan_field.Goals as goal
 
 pub returns-clause-read : goal.returns-clause-read
-returns-clause-read c = table_plan_shown c.args.indices c.args.value.now c.requires c.type_inv.value _ (grind (arith, common_steps))
+returns-clause-read c = table_plan_shown c.args.indices c.args.value.now c.type_inv.value c.requires _ (grind (arith, common_steps))
