@@ -2,7 +2,7 @@
 use Rattle.std.proofs.Common.{◌≡◌, ℕ, ◌≤◌, true, false, cond, not, leb, List, [], ◌∷◌, ◌++◌, length, is_some, Some, None, Ok, Err, Option, Result, sym, refl, ap, ◌∙◌, true≢false, arith, eqb-true, le-leb, leb-true}
 use Rattle.std.specs.Option.{option_map}
 use Rattle.std.specs.List.{AllByRecursion as All}
-use Rattle.std.proofs.lemmas.Bool.{and_from, and_parts, or_from, or_parts}
+use Rattle.std.proofs.lemmas.Bool.{and_from, and_parts, not-false, or_from, or_parts}
 use Rattle.clauses.specs.declared.kinds.Kind.{Kind}
 use Rattle.clauses.specs.declared.kinds.Kind.TheVariants.{Start, Global, Step, Sometime}
 use Rattle.clauses.specs.declared.lines.Line.{Line}
@@ -25,7 +25,7 @@ use Rattle.inspection.specs.Told.{told_line}
 use Rattle.calls.specs.Lawful.{lawful, lawful_line}
 use Rattle.calls.specs.Models.{Model}
 use Rattle.calls.specs.Waits.{and_then, place_of, wait_for, wait_of}
-use Rattle.calls.proofs.Keeping.{all_none, not_false}
+use Rattle.calls.proofs.Keeping.{all_none}
 use Rattle.inspection.proofs.Finding.{lawful_there}
 use Rattle.inspection.proofs.Given.{held_place}
 use Rattle.inspection.proofs.Making.{lawful_proper, lawful_shaped, wait_clause, waits_held}
@@ -99,8 +99,8 @@ module _ (m : Model) (ok : lawful m.waits m.lines ≡ true) (a b : ℕ) (l : Lit
     sound-there : line_at m.lines a ≡ Some x → line_at m.lines b ≡ Some y → first_of (resolve_causes m.loops (Some x) (Some y) l ++ (18, full m) ∷ []) ≡ None → (z : Line) × (resolved_of (Some x) (Some y) l ≡ Some z) × Resolving m a b l (clause_of z)
     sound-there first second h =
         let none = all_none (resolve_causes m.loops (Some x) (Some y) l ++ (18, full m) ∷ []) h in
-        let kind = there (joint_kind x.kind y.kind) (not_false _ none.0) in
-        let fits = and_parts (leb (length (resolved_left x y)) 16) (leb (length (resolved_right x y l)) 16) (not_false _ none.1.1.1.0) in (
+        let kind = there (joint_kind x.kind y.kind) (not-false _ none.0) in
+        let fits = and_parts (leb (length (resolved_left x y)) 16) (leb (length (resolved_right x y l)) 16) (not-false _ none.1.1.1.0) in (
           resolved_line kind.0 x y l,
           ap (option_map (λ k. resolved_line k x y l)) kind.1,
           record {
@@ -108,7 +108,7 @@ module _ (m : Model) (ok : lawful m.waits m.lines ≡ true) (a b : ℕ) (l : Lit
             two = y;
             first = first;
             second = second;
-            rule = resolved_follows x y l kind.0 (lawful_shaped m.waits x hx) (lawful_shaped m.waits y hy) kind.1 (not_false _ none.1.0);
+            rule = resolved_follows x y l kind.0 (lawful_shaped m.waits x hx) (lawful_shaped m.waits y hy) kind.1 (not-false _ none.1.0);
             live = or_parts (ended m.loops x.belongs) (ended m.loops y.belongs) none.1.1.0;
             short = (side_fits (resolved_left x y) left_up fits.0, side_fits (resolved_right x y l) right-up fits.1);
             room = none.1.1.1.1.0;
@@ -149,7 +149,7 @@ module _ (m : Model) (n : ℕ) where
   rewriting_sound None e h = let z : ◌≡◌ {A = ℕ} 0 1 = cc in absurd (omega arith)
   rewriting_sound (Some x) e h =
       let none = all_none (rewrite_causes (Some x) ++ (18, full m) ∷ []) h in
-      (rewritten_line x, refl, record { one = x; there = e; rule = rewritten_follows x (not_false _ none.0); free = nowhere x.belongs none.1.0; room = none.1.1.0 })
+      (rewritten_line x, refl, record { one = x; there = e; rule = rewritten_follows x (not-false _ none.0); free = nowhere x.belongs none.1.0; room = none.1.1.0 })
 
   rewriting_complete : (d : Clause) → Rewriting m n d → (first_of (causes m (rewrite n)) ≡ None) × (z : Line) × (option_map rewritten_line (line_at m.lines n) ≡ Some z) × (clause_of z ≡ d)
   rewriting_complete d p =
@@ -198,7 +198,7 @@ module _ (m : Model) (n : ℕ) (Rule : Clause → Literal → Literal → Clause
   waiting_sound ok follows None e h = let z : ◌≡◌ {A = ℕ} 0 1 = cc in absurd (omega arith)
   waiting_sound ok follows (Some x) e h =
       let none = all_none (wait_causes (Some x) ++ (18, full m) ∷ []) h in
-      let p = waits_there m.waits x (lawful_there m.waits m.lines n x e ok) (not_false _ none.0) in
+      let p = waits_there m.waits x (lawful_there m.waits m.lines n x e ok) (not-false _ none.0) in
       let w = p.what in (
         f x w p.literal,
         is x ∙ sym (wait_clause m.waits x w p.literal (f x) p.waits p.given),

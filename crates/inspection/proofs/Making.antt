@@ -1,6 +1,7 @@
 -- Lines made by steps are lawful, and have place. Assumes nothing.
 use Rattle.std.proofs.Common.{◌≡◌, ℕ, ◌≤◌, Bool, true, false, cond, not, ◌&&◌, eqb, leb, List, [], ◌∷◌, length, is_some, Some, None, Ok, Err, Option, Result, sym, refl, ap, ◌∙◌, true≢false, arith, eqb-true, le-leb, leb-true, MatchResult}
 use Rattle.std.specs.Option.{option_map}
+use Rattle.std.proofs.lemmas.Bool.{and_from, and_parts, not-false}
 use Rattle.clauses.specs.declared.kinds.Kind.{Kind}
 use Rattle.clauses.specs.declared.kinds.Kind.TheVariants.{Start, Global, Step, Sometime}
 use Rattle.clauses.specs.declared.kinds.Scope.{Scope}
@@ -24,7 +25,7 @@ use Rattle.inspection.specs.Held.{MayHave}
 use Rattle.inspection.specs.Told.{Makes, WaiterAt}
 use Rattle.calls.specs.Lawful.{lawful_line, sized, waited}
 use Rattle.calls.specs.Waits.{and_then, held, place_of, wait_for, wait_of}
-use Rattle.calls.proofs.Keeping.{UnderIf, all_none, both, first_so, not_false, second_so}
+use Rattle.calls.proofs.Keeping.{UnderIf, all_none}
 
 -- a kind that waits for nothing
 abbrev pub plain : Kind → Bool
@@ -48,28 +49,28 @@ plain_left (Sometime s) h = absurd (true≢false (sym h))
 pub made_lawful : (ws : List Wait) (kind : Kind) (left right : List Literal) (loop : Option ℕ) → plain kind ≡ true → ascends left ≡ true → ascends right ≡ true → leb (length left) 16 ≡ true → shaped kind (length left) (length right) ≡ true → lawful_line ws (made kind left right loop) ≡ true
 made_lawful ws kind left right loop bare up upr few shape =
     let x = made kind left right loop in
-    let sides = both (ascends (literals (side_of left))) (ascends (literals (side_of right))) (ap ascends (literals_of left) ∙ up) (ap ascends (literals_of right) ∙ upr) in
+    let sides = and_from (ascends (literals (side_of left))) (ascends (literals (side_of right))) (ap ascends (literals_of left) ∙ up) (ap ascends (literals_of right) ∙ upr) in
     let short = (λ i. leb (length (literals_of left i)) (plain_left kind bare i)) ∙ few in
     let formed = (λ i. shaped kind (length (literals_of left i)) (length (literals_of right i))) ∙ shape in
-    both (proper x) (waited ws (wait_of x) && sized x) sides
-    (both (waited ws (wait_of x)) (sized x) (plain_waits ws kind (literals x.right) bare) (both (leb (length (literals x.left)) (most_left kind)) (shaped kind (length (literals x.left)) (length (literals x.right))) short formed))
+    and_from (proper x) (waited ws (wait_of x) && sized x) sides
+    (and_from (waited ws (wait_of x)) (sized x) (plain_waits ws kind (literals x.right) bare) (and_from (leb (length (literals x.left)) (most_left kind)) (shaped kind (length (literals x.left)) (length (literals x.right))) short formed))
 
 -- the parts of a lawful line
 module _ (ws : List Wait) (x : Line) (h : lawful_line ws x ≡ true) where
   rest : (waited ws (wait_of x) && sized x) ≡ true
-  rest = second_so (proper x) (waited ws (wait_of x) && sized x) h
+  rest = (and_parts (proper x) (waited ws (wait_of x) && sized x) h).1
 
   pub lawful_proper : proper x ≡ true
-  lawful_proper = first_so (proper x) (waited ws (wait_of x) && sized x) h
+  lawful_proper = (and_parts (proper x) (waited ws (wait_of x) && sized x) h).0
 
   pub lawful_waited : waited ws (wait_of x) ≡ true
-  lawful_waited = first_so (waited ws (wait_of x)) (sized x) rest
+  lawful_waited = (and_parts (waited ws (wait_of x)) (sized x) rest).0
 
   pub lawful_left : leb (length (literals x.left)) (most_left x.kind) ≡ true
-  lawful_left = first_so (leb (length (literals x.left)) (most_left x.kind)) (shaped x.kind (length (literals x.left)) (length (literals x.right))) (second_so (waited ws (wait_of x)) (sized x) rest)
+  lawful_left = (and_parts (leb (length (literals x.left)) (most_left x.kind)) (shaped x.kind (length (literals x.left)) (length (literals x.right))) ((and_parts (waited ws (wait_of x)) (sized x) rest).1)).0
 
   pub lawful_shaped : shaped x.kind (length (literals x.left)) (length (literals x.right)) ≡ true
-  lawful_shaped = second_so (leb (length (literals x.left)) (most_left x.kind)) (shaped x.kind (length (literals x.left)) (length (literals x.right))) (second_so (waited ws (wait_of x)) (sized x) rest)
+  lawful_shaped = (and_parts (leb (length (literals x.left)) (most_left x.kind)) (shaped x.kind (length (literals x.left)) (length (literals x.right))) ((and_parts (waited ws (wait_of x)) (sized x) rest).1)).1
 
 -- ---- resolving
 
@@ -97,7 +98,7 @@ joint_plain (Step s) (Step t) = step_plain (joint_scope s t)
 joint_plain (Step s) (Sometime t) = tt
 joint_plain (Sometime s) b = tt
 
--- the counts of both sides fit a kind that there is
+-- the counts of and_from sides fit a kind that there is
 abbrev ShapedIf : Option Kind → ℕ → ℕ → Type 0
 ShapedIf None m n = Unit {0}
 ShapedIf (Some kind) m n = shaped kind m n ≡ true
@@ -127,12 +128,12 @@ joins_shaped (Sometime s) b l r m n k p q = tt
 
 resolved_lawful : (ws : List Wait) (x y : Line) (l : Literal) (kind : Kind) → plain kind ≡ true → shaped kind (length (resolved_left x y)) (length (resolved_right x y l)) ≡ true → proper x ≡ true → proper y ≡ true → resolved_fits x y l ≡ true → lawful_line ws (resolved_line kind x y l) ≡ true
 resolved_lawful ws x y l kind bare shape px py fits =
-    let left = first_so (ascends (literals y.left)) (ascends (literals y.right)) py in
-    let right = second_so (ascends (literals y.left)) (ascends (literals y.right)) py in
+    let left = (and_parts (ascends (literals y.left)) (ascends (literals y.right)) py).0 in
+    let right = (and_parts (ascends (literals y.left)) (ascends (literals y.right)) py).1 in
     made_lawful ws kind (resolved_left x y) (resolved_right x y l) (either_loop x.belongs y.belongs) bare
     (join_ascends (literals x.left) (literals y.left) left)
     (join_ascends (without l (literals x.right)) (without (opposite l) (literals y.right)) (without_ascends (opposite l) (literals y.right) right))
-    (first_so (leb (length (resolved_left x y)) 16) (leb (length (resolved_right x y l)) 16) fits)
+    ((and_parts (leb (length (resolved_left x y)) 16) (leb (length (resolved_right x y l)) 16) fits).0)
     shape
 
 by_kind : (ws : List Wait) (x y z : Line) (l : Literal) (o : Option Kind) → PlainIf o → ShapedIf o (length (resolved_left x y)) (length (resolved_right x y l)) → proper x ≡ true → proper y ≡ true → resolved_fits x y l ≡ true → Some z ≡ option_map (λ kind. resolved_line kind x y l) o → lawful_line ws z ≡ true
@@ -175,7 +176,7 @@ pub resolvent_makes : (m : Model) (x y : Line) (l : Literal) (r : Result Line Re
 resolvent_makes m x y l (Ok z) hx hy h =
     let ws = m.waits in
     let none = all_none (resolve_causes [] (Some x) (Some y) l) h.0 in
-    let fits = not_false (resolved_fits x y l) none.1.1.1.0 in (
+    let fits = not-false (resolved_fits x y l) none.1.1.1.0 in (
       h.0,
       h.1,
       record {

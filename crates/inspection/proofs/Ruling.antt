@@ -1,6 +1,6 @@
 -- What a judged plan answers, by what stands against it. Assumes nothing.
 use Rattle.std.proofs.Common.{◌≡◌, ℕ, true, ltb, List, get_or, IfOk, Some, None, Ok, Err, Result, sym, ap, ◌∙◌, subst, arith, MatchResult}
-use Rattle.std.proofs.lemmas.Bool.{eqb-true, ltb-true, or_parts}
+use Rattle.std.proofs.lemmas.Bool.{eqb-true, ltb-true, not-false, or_parts}
 use Rattle.clauses.specs.declared.kinds.Kind.{Kind}
 use Rattle.clauses.specs.declared.kinds.Kind.TheVariants.{Start, Global, Step, Sometime}
 use Rattle.clauses.specs.declared.kinds.Scope.{Scope}
@@ -20,7 +20,7 @@ use Rattle.inspection.specs.Told.{told_judgement}
 use Rattle.calls.specs.Lawful.{indexed}
 use Rattle.calls.specs.Models.{Model}
 use Rattle.inspection.proofs.Adding.{accepted_by, refused_by}
-use Rattle.calls.proofs.Keeping.{all_none, indexed_at, not_false}
+use Rattle.calls.proofs.Keeping.{all_none, indexed_at}
 
 module _ (sys : System) (k : ℕ) (same : sys.indices ≡ k) where
   speaks_under : (s : Scope) → scope_under k s ≡ true → Speaks sys s
@@ -40,7 +40,7 @@ module _ (sys : System) (k : ℕ) (same : sys.indices ≡ k) where
 same_count : (k bytes : ℕ) (sys : System) → first_of (judge_causes k bytes sys) ≡ None → sys.indices ≡ k
 same_count k bytes sys h =
     let clear = all_none (judge_causes k bytes sys) h in
-    eqb-true sys.indices k (not_false _ (or_parts (ltb 256 sys.states) _ clear.1.0).1)
+    eqb-true sys.indices k (not-false _ (or_parts (ltb 256 sys.states) _ clear.1.0).1)
 
 -- the rules that are judged are the lines made
 module _ (m : Model) (sys : System) (bytes : ℕ) (ok : indexed m.indices m.lines ≡ true) (xs : List Line) (is : xs ≡ m.lines) where
