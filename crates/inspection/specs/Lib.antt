@@ -3,3 +3,4 @@ pub mod Held
 pub mod Told
 pub mod Accepted
 pub mod Examples
+pub mod Texts

@@ -6,6 +6,7 @@ ghost use Rattle.inspection.specs.Held.{model_of};
 
 use crate::state::Inspection;
 use clauses::Line;
+use std::fmt;
 
 // Impossible names the lowest line that no system keeps.
 // Not an Option, since the two answers are words of the report.
@@ -25,5 +26,19 @@ impl<'a> Inspection<'a> {
             .iter()
             .position(Line::refutes)
             .map_or(Verdict::Undecided, Verdict::Impossible)
+    }
+}
+
+impl fmt::Display for Verdict {
+    ghost use Rattle.std.specs.Prelude.{Some};
+    ghost use Rattle.inspection.specs.Texts.{verdict_text};
+
+    ghost output = { λ verdict. Some (verdict_text verdict) };
+
+    fn fmt<W: fmt::Write>(&self, f: &mut fmt::Formatter<W>) -> fmt::Result {
+        match self {
+            Verdict::Impossible(line) => write!(f, "impossible {line}"),
+            Verdict::Undecided => f.write_str("undecided"),
+        }
     }
 }
