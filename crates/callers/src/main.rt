@@ -3,7 +3,6 @@
 
 use clauses::{Line, Literal};
 use inspection::{Inspection, Opening};
-use judging::Judgement;
 use ordered::Pair;
 use plans::{Plan, PlanRefusal, Ring, TablePlan};
 
@@ -14,10 +13,7 @@ fn show_filled(
 ) -> anyhow::Result<()> {
     match filled {
         Ok(()) => println!(rt; "{name}: filled")?,
-        Err(refusal) => {
-            let number = refusal.number();
-            println!(rt; "{name}: no {number}")?
-        }
+        Err(refusal) => println!(rt; "{name}: no {}", refusal.number())?,
     }
     Ok(())
 }
@@ -35,10 +31,7 @@ fn show_sizes(rt: &HostRuntime) -> anyhow::Result<()> {
 
 // Tables that are too short, in disorder or out of range, and that 6 comes before 9, and 9 before 19.
 fn show_tables(rt: &HostRuntime) -> anyhow::Result<()> {
-    let twice = [Pair {
-        first: 0,
-        second: 0,
-    }; 2];
+    let twice = [Pair::default(); 2];
     let mut plan = TablePlan::new();
     show_filled(
         rt,
@@ -67,12 +60,8 @@ fn show_judged<P: Plan>(
     marks: &mut [u8],
 ) -> anyhow::Result<()> {
     match inspection.judge(plan, marks) {
-        Ok(Judgement::Kept) => print!(rt; "{name}: kept")?,
-        Ok(Judgement::Broken { rule, state }) => print!(rt; "{name}: broken {rule} {state}")?,
-        Err(refusal) => {
-            let number = refusal.number();
-            print!(rt; "{name}: no {number}")?
-        }
+        Ok(judgement) => print!(rt; "{name}: {judgement}")?,
+        Err(refusal) => print!(rt; "{name}: no {}", refusal.number())?,
     }
     for mark in marks.iter() {
         print!(rt; " {mark}")?;

@@ -13,18 +13,6 @@ const BEGIN: [u8; 4] = [1, 0, 1, 1];
 // A start rule of the literal 0.
 const START: [u8; 9] = [2, 0, 6, 1, 0, 0, 1, 0, 0];
 
-fn table(heap: Global) -> Result<Vec<Line>, AllocError> {
-    vec![in heap; Line::BLANK; 512]
-}
-
-fn show(rt: &HostRuntime, name: &str, book: &[u8], work: &[u8]) -> anyhow::Result<()> {
-    let mut lines = table(rt.alloc())?;
-    let text = report(rt.alloc(), Some(book), Some(work), lines.as_mut_slice())?;
-    println!(rt; "{name}:")?;
-    rt.print(text)?;
-    Ok(())
-}
-
 // A begin and so many rules.
 fn rules(heap: Global, count: usize) -> Result<Vec<u8>, AllocError> {
     let mut book = Vec::new(heap);
@@ -49,21 +37,20 @@ fn nine(heap: Global) -> Result<Vec<u8>, AllocError> {
 fn show_side(rt: &HostRuntime, name: &str, side: &Side) -> anyhow::Result<()> {
     print!(rt; " {name}")?;
     for literal in side.literals() {
-        let number = literal.0;
-        print!(rt; " {number}")?;
+        print!(rt; " {}", literal.0)?;
     }
     Ok(())
 }
 
-// The same, and both sides of the first lines of the table.
-fn show_lines(
+// The report of a book and a work, and both sides of the first lines of the table.
+fn show(
     rt: &HostRuntime,
     name: &str,
     book: &[u8],
     work: &[u8],
     count: usize,
 ) -> anyhow::Result<()> {
-    let mut lines = table(rt.alloc())?;
+    let mut lines = vec![in rt.alloc(); Line::BLANK; 512]?;
     let text = report(rt.alloc(), Some(book), Some(work), lines.as_mut_slice())?;
     println!(rt; "{name}:")?;
     rt.print(text)?;
@@ -222,7 +209,7 @@ const STEPS: [Case; 8] = [
 
 fn show_all(rt: &HostRuntime, cases: &[Case]) -> anyhow::Result<()> {
     for (name, book, work) in cases {
-        show(rt, name, book, work)?;
+        show(rt, name, book, work, 0)?;
     }
     Ok(())
 }
@@ -236,9 +223,10 @@ fn show_full(rt: &HostRuntime) -> anyhow::Result<()> {
         "512 rules, and one line more",
         book.as_slice(),
         &[3, 0, 6, 0, 0, 1, 255, 0, 0, 4, 0, 2, 0, 0],
+        0,
     )?;
     let over = rules(rt.alloc(), 513)?;
-    show(rt, "513 rules", over.as_slice(), &[])
+    show(rt, "513 rules", over.as_slice(), &[], 0)
 }
 
 // A sometime rule with the left 2 and the goal 0.
@@ -255,15 +243,15 @@ fn main(rt: HostRuntime) -> anyhow::Result<()> {
     show_all(&rt, &STEPS)?;
     show_full(&rt)?;
     let book = nine(rt.alloc())?;
-    show_lines(&rt, "nine rules", book.as_slice(), &[], 10)?;
-    show_lines(
+    show(&rt, "nine rules", book.as_slice(), &[], 10)?;
+    show(
         &rt,
         "enter and stay",
         &SOMETIME,
         &[5, 0, 2, 0, 0, 6, 0, 2, 0, 0],
         4,
     )?;
-    show_lines(
+    show(
         &rt,
         "rewritten lefts",
         &EMPTY_STEPS,

@@ -3,7 +3,6 @@
 
 use clauses::Line;
 use run::report;
-use std::alloc::{AllocError, Global};
 use std::fs::File;
 use std::io::Read;
 
@@ -21,22 +20,16 @@ fn contents(rt: &HostRuntime, path: &str) -> Option<Vec<u8>> {
     Some(bytes)
 }
 
-fn table(heap: Global) -> Result<Vec<Line>, AllocError> {
-    vec![in heap; Line::BLANK; LINES]
-}
-
-fn part(file: &Option<Vec<u8>>) -> Option<&[u8]> {
-    match file {
-        Some(bytes) => Some(bytes.as_slice()),
-        None => None,
-    }
-}
-
 fn main(rt: HostRuntime) -> anyhow::Result<()> {
     let book = contents(&rt, "book.bin");
     let work = contents(&rt, "work.bin");
-    let mut lines = table(rt.alloc())?;
-    let text = report(rt.alloc(), part(&book), part(&work), lines.as_mut_slice())?;
+    let mut lines = vec![in rt.alloc(); Line::BLANK; LINES]?;
+    let text = report(
+        rt.alloc(),
+        book.as_ref().map(|bytes| bytes.as_slice()),
+        work.as_ref().map(|bytes| bytes.as_slice()),
+        lines.as_mut_slice(),
+    )?;
     rt.print(text)?;
     Ok(())
 }

@@ -1,5 +1,5 @@
 -- What the loop over the fields of a work keeps. Assumes nothing.
-use Rattle.std.proofs.Common.{◌≡◌, ℕ, suc, ◌+◌, ◌<◌, ◌≤◌, true, false, List, ◌++◌, length, IfOk, Ok, Err, Result, sym, refl, ap, ◌∙◌, append_assoc, arith}
+use Rattle.std.proofs.Common.{◌≡◌, ℕ, suc, ◌+◌, ◌<◌, ◌≤◌, true, false, List, ◌++◌, length, IfOk, Ok, Err, Result, sym, refl, ap, ◌∙◌, arith}
 use Rattle.clauses.specs.declared.lines.Line.{Line}
 use Rattle.fields.specs.declared.shapes.Source.TheVariants as source
 use Rattle.fields.specs.declared.walk.Reader.{Reader}
@@ -23,10 +23,6 @@ made_so (Err e) p = tt
 pub laid_as : {X E : Type 0} (r : Result X E) (table lines lines' before : List Line) → table ≡ overlay lines before → IfOk r (λ _. lines ≡ lines') → IfOk r (λ _. table ≡ overlay lines' before)
 laid_as (Ok x) table lines lines' before is same = is ∙ ap (λ l. overlay l before) same
 laid_as (Err e) table lines lines' before is same = tt
-
--- one line more, and then the rest
-pub wrote_line : (text text' line rest whole : List ℕ) → text' ≡ text ++ line → whole ≡ line ++ rest → text' ++ rest ≡ text ++ whole
-wrote_line text text' line rest whole wrote is = ap (λ t. t ++ rest) wrote ∙ append_assoc text line rest ∙ ap (λ l. text ++ l) (sym is)
 
 -- a work for the inspection s₀, whose lines follow the text before; the loop has come to the reader r, the inspection s and field n
 pub record Sofar (work before : List ℕ) (s₀ : Inspection) (r : Reader) (s : Inspection) (text : List ℕ) (n : ℕ) : Type 0 where

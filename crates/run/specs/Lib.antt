@@ -1,6 +1,8 @@
 pub mod Parts
+pub mod Elements
 pub mod Files
 pub mod Faults
+pub mod Words
 pub mod Runs
 pub mod Text
 pub mod Steps

@@ -10,7 +10,8 @@ ghost use Rattle.run.specs.Runs.{rule_call};
 ghost use Rattle.run.specs.Steps.{AllRules, Begun, Goes, OneRule};
 
 use crate::faults::{Fault, File, Refused};
-use crate::parts::literals_into;
+use crate::parts::elements;
+use arrayvec::ArrayVec;
 use clauses::{Line, Literal, Refusal};
 use fields::{Field, Reader};
 use inspection::{Inspection, Opening};
@@ -29,11 +30,9 @@ fn take_rule(
     ensures table { inspection.new.lines.now ≡ overlay (model_of inspection.new).lines inspection.old.lines.now }
     ensures lent { inspection.new.lines.ghost_name ≡ inspection.old.lines.ghost_name }
 {
-    let mut places = [Literal(0); 255];
-    let mut others = [Literal(0); 255];
-    let l = literals_into(left, &mut places);
-    let r = literals_into(right, &mut others);
-    inspection.rule(kind, index, &places[0..l], &others[0..r])
+    let left: ArrayVec<Literal, 255> = elements(left);
+    let right: ArrayVec<Literal, 255> = elements(right);
+    inspection.rule(kind, index, &left, &right)
 }
 
 // Takes in the next rule of the book, and answers its line; none at the end.
@@ -76,14 +75,11 @@ pub(crate) fn take_rules(reader: &mut Reader, inspection: &mut Inspection) -> Re
     let mut count = 0;
     loop {
         let offset = reader.place();
-        let taken = match next_rule(reader, inspection) {
-            Ok(taken) => taken,
-            Err(refused) => return Err(Fault {
-                refused,
-                file: File::Book,
-                offset,
-            }),
-        };
+        let taken = next_rule(reader, inspection).map_err(|refused| Fault {
+            refused,
+            file: File::Book,
+            offset,
+        })?;
         let Some(_) = taken else {
             return Ok(count);
         };

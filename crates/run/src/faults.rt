@@ -1,19 +1,21 @@
 // Why a run refuses a field, and where it stands.
-ghost use Rattle.std.specs.Prelude.{◌≡◌};
+ghost use Rattle.std.specs.Prelude.{◌≡◌, Some};
 ghost use Rattle.run.specs.Faults.{layer_of, refused_number};
+ghost use Rattle.run.specs.Words.{fault_text, file_text};
 ghost use Rattle.run.specs.declared.faults.Refused.TheVariants as refused;
 
 use clauses::Refusal;
 use fields::ReaderFault;
 use plans::PlanRefusal;
+use std::fmt;
 
-#[derive(Clone, Copy)]
+#[derive(Debug, Clone, Copy, PartialEq, Eq)]
 pub enum File {
     Book,
     Work,
 }
 
-#[derive(Clone, Copy)]
+#[derive(Debug, Clone, Copy, PartialEq, Eq)]
 pub enum Layer {
     Reader,
     Plan,
@@ -21,7 +23,7 @@ pub enum Layer {
 }
 
 // The fault of the layer that refused a field, whole.
-#[derive(Clone, Copy)]
+#[derive(Debug, Clone, Copy, PartialEq, Eq)]
 pub enum Refused {
     Reader(ReaderFault),
     Plan(PlanRefusal),
@@ -29,11 +31,32 @@ pub enum Refused {
 }
 
 // What is refused, in which file, and the offset of the field.
-#[derive(Clone, Copy)]
+#[derive(Debug, Clone, Copy, PartialEq, Eq)]
 pub struct Fault {
     pub refused: Refused,
     pub file: File,
     pub offset: usize,
+}
+
+impl fmt::Display for File {
+    ghost output = { λ file. Some (file_text file) };
+
+    fn fmt<W: fmt::Write>(&self, f: &mut fmt::Formatter<W>) -> fmt::Result {
+        match self {
+            File::Book => f.write_str("book"),
+            File::Work => f.write_str("work"),
+        }
+    }
+}
+
+impl fmt::Display for Fault {
+    ghost output = { λ fault. Some (fault_text fault) };
+
+    fn fmt<W: fmt::Write>(&self, f: &mut fmt::Formatter<W>) -> fmt::Result {
+        let number = self.number();
+        let offset = self.offset;
+        write!(f, "no {number} {offset}")
+    }
 }
 
 impl From<ReaderFault> for Refused {

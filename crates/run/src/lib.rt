@@ -7,7 +7,6 @@ pub mod outcomes;
 mod parts;
 mod plan_fields;
 pub mod reports;
-mod text;
 mod works;
 
 pub use faults::{Fault, File, Layer, Refused};

@@ -1,56 +1,81 @@
 // From the parts of the input that a field shows to what a call takes.
-ghost use Rattle.std.specs.Prelude.{◌≡◌, ◌+◌, ◌*◌, ◌≤◌, length, take};
+ghost use Rattle.std.specs.Prelude.{◌≡◌, ℕ, ◌/◌, ◌≤◌, List, length};
+ghost use Rattle.run.specs.Elements.{HeldInTurn, literal_of, literals_in_turn, number_of, numbers_in_turn, pair_of, pairs_in_turn};
 ghost use Rattle.run.specs.Parts.{literals_of, numbers_of, pairs_of};
 
+use arrayvec::ArrayVec;
 use clauses::Literal;
 use ordered::Pair;
 
-// Reads the literals of a part, two bytes each with the high byte first, and answers how many there are.
-pub(crate) fn literals_into(part: &[u8], places: &mut [Literal]) -> usize
-    requires { length part.now ≤ 2 * length places.old }
-    ensures within { result ≤ length places.new }
-    ensures value { take result places.new ≡ literals_of part.now }
-{
-    let mut rest = part;
-    let mut count = 0;
-    while let [high, low, after @ ..] = rest {
-        places[count] = Literal(256 * (*high as u16) + *low as u16);
-        count += 1;
-        rest = after;
-    }
-    count
+// What a part of the input holds one after the other, in so many bytes each.
+pub(crate) trait Element<const SIZE: usize>: Default + Drop {
+    ghost of: { List ℕ → Self };
+
+    ghost all_of: { List ℕ → List Self };
+
+    fn of_bytes(bytes: &[u8; SIZE]) -> Self
+        ensures { result ≡ of bytes.now };
+
+    ghost in_turn: { HeldInTurn SIZE of all_of };
 }
 
-// Reads the numbers of a part, and answers how many there are.
-pub(crate) fn numbers_into(part: &[u8], places: &mut [u16]) -> usize
-    requires { length part.now ≤ 2 * length places.old + 1 }
-    ensures within { result ≤ length places.new }
-    ensures value { take result places.new ≡ numbers_of part.now }
-{
-    let mut rest = part;
-    let mut count = 0;
-    while let [high, low, after @ ..] = rest {
-        places[count] = 256 * (*high as u16) + *low as u16;
-        count += 1;
-        rest = after;
+impl Element<2> for Literal {
+    ghost of = { literal_of };
+
+    ghost all_of = { literals_of };
+
+    ghost in_turn = { literals_in_turn };
+
+    fn of_bytes(bytes: &[u8; 2]) -> Literal
+        ensures { result ≡ literal_of bytes.now }
+    {
+        Literal(u16::from_be_bytes(*bytes))
     }
-    count
 }
 
-// Reads the pairs of a part, two numbers each, and answers how many there are.
-pub(crate) fn pairs_into(part: &[u8], places: &mut [Pair]) -> usize
-    requires { length part.now ≤ 4 * length places.old + 3 }
-    ensures within { result ≤ length places.new }
-    ensures value { take result places.new ≡ pairs_of part.now }
-{
-    let mut rest = part;
-    let mut count = 0;
-    while let [first_high, first_low, second_high, second_low, after @ ..] = rest {
-        let first = 256 * (*first_high as u16) + *first_low as u16;
-        let second = 256 * (*second_high as u16) + *second_low as u16;
-        places[count] = Pair { first, second };
-        count += 1;
-        rest = after;
+impl Element<2> for u16 {
+    ghost of = { number_of };
+
+    ghost all_of = { numbers_of };
+
+    ghost in_turn = { numbers_in_turn };
+
+    fn of_bytes(bytes: &[u8; 2]) -> u16
+        ensures { result ≡ number_of bytes.now }
+    {
+        u16::from_be_bytes(*bytes)
     }
-    count
+}
+
+impl Element<4> for Pair {
+    ghost of = { pair_of };
+
+    ghost all_of = { pairs_of };
+
+    ghost in_turn = { pairs_in_turn };
+
+    fn of_bytes(bytes: &[u8; 4]) -> Pair
+        ensures { result ≡ pair_of bytes.now }
+    {
+        let [a, b, c, d] = *bytes;
+        Pair {
+            first: u16::from_be_bytes([a, b]),
+            second: u16::from_be_bytes([c, d]),
+        }
+    }
+}
+
+// The elements that a part holds; bytes too few for another are left over.
+pub(crate) fn elements<T: Element<SIZE>, const SIZE: usize, const ROOM: usize>(
+    part: &[u8],
+) -> ArrayVec<T, ROOM>
+    requires { length part.now / SIZE ≤ ROOM }
+    ensures { result.items ≡ T.all_of part.now }
+{
+    let (chunks, _) = part.as_chunks::<SIZE>();
+    let mut elements = ArrayVec::new();
+    for bytes in chunks {
+        elements.push(T::of_bytes(bytes));
+    }
+    elements
 }

@@ -9,7 +9,6 @@ ghost use Rattle.run.specs.Text.{readable, report, run_text, table_of};
 
 use crate::books::{begin, take_rules};
 use crate::faults::{Fault, File};
-use crate::text::{write_book, write_refused_book, write_unread_book, write_unread_work};
 use crate::works::write_work;
 use clauses::Line;
 use fields::{Reader, Source};
@@ -42,22 +41,23 @@ fn write_run(
     let mut reader = Reader::new(Source::Book, book);
     let opening = match begin(&mut reader, lines) {
         Ok(opening) => opening,
-        Err(refused) => return write_refused_book(
-            text,
-            Fault {
+        Err(refused) => {
+            let fault = Fault {
                 refused,
                 file: File::Book,
                 offset: 0,
-            },
-        ),
+            };
+            return writeln!(text, "book {fault}");
+        }
     };
     let mut inspection = opening.open(lines);
     match take_rules(&mut reader, &mut inspection) {
         Ok(rules) => {
-            write_book(text, inspection.indices(), rules)?;
+            let indices = inspection.indices();
+            writeln!(text, "book {indices} {rules}")?;
             write_work(text, work, &mut inspection)
         }
-        Err(fault) => write_refused_book(text, fault),
+        Err(fault) => writeln!(text, "book {fault}"),
     }
 }
 
@@ -73,11 +73,11 @@ pub fn report(
 {
     let mut text = String::new(heap);
     let Some(book) = readable(book) else {
-        write_unread_book(&mut text)?;
+        writeln!(text, "unread {}", File::Book)?;
         return Ok(text);
     };
     let Some(work) = readable(work) else {
-        write_unread_work(&mut text)?;
+        writeln!(text, "unread {}", File::Work)?;
         return Ok(text);
     };
     write_run(&mut text, book, work, lines)?;

@@ -10,7 +10,7 @@ ghost use Rattle.run.specs.Steps.{Did, IsWork, OneLine, Onward, Written};
 ghost use Rattle.run.specs.Text.{work_text};
 
 use crate::faults::{Fault, File, Refused};
-use crate::text::{write_line, write_refused, write_verdict};
+use crate::outcomes::Outcome;
 use clauses::{Literal, Refusal};
 use fields::{Field, Reader, Source};
 use inspection::Inspection;
@@ -71,25 +71,21 @@ fn write_next(
     ensures step { IfOk result (λ more. Written more number (string_bytes text.old) (string_bytes text.new) reader.old (model_of inspection.old) reader.new (model_of inspection.new)) }
 {
     let offset = reader.place();
-    let found = match next_line(reader, inspection) {
-        Ok(found) => found,
-        Err(refused) => {
-            write_refused(
-                text,
-                number,
-                Fault {
-                    refused,
-                    file: File::Work,
-                    offset,
-                },
-            )?;
-            return Ok(true);
+    match next_line(reader, inspection) {
+        Ok(None) => return Ok(false),
+        Ok(Some(line)) => {
+            let outcome = Outcome::Line(line);
+            writeln!(text, "{number} {outcome}")?
         }
-    };
-    let Some(line) = found else {
-        return Ok(false);
-    };
-    write_line(text, number, line)?;
+        Err(refused) => {
+            let fault = Fault {
+                refused,
+                file: File::Work,
+                offset,
+            };
+            writeln!(text, "{number} {fault}")?
+        }
+    }
     Ok(true)
 }
 
@@ -115,7 +111,8 @@ pub(crate) fn write_work(
     loop {
         let more = write_next(text, number, &mut reader, inspection)?;
         if !more {
-            return write_verdict(text, inspection.verdict());
+            let verdict = inspection.verdict();
+            return writeln!(text, "{verdict}");
         }
         number += 1;
     }

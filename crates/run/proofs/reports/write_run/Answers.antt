@@ -1,18 +1,17 @@
-use Rattle.std.proofs.Common.{◌≡◌, ◌++◌, length, Ok, string_bytes, sym, ap, ◌∙◌, append_assoc}
+use Rattle.std.proofs.Common.{◌≡◌, length, Ok, sym, ap, ◌∙◌}
 use Rattle.std.proofs.lemmas.Result.{IfOk-weaker}
 use Rattle.fields.specs.declared.shapes.Source.TheVariants as source
 use Rattle.calls.specs.Models.{overlay}
 use Rattle.inspection.specs.Held.{model_of}
 use Rattle.run.specs.Files.{items_of}
 use Rattle.run.specs.Runs.{book_of, made_by, taken}
-use Rattle.run.specs.Text.{book_text, run_text, work_text}
 use Rattle.inspection.proofs.Overlays.{overlay_twice}
 use Rattle.run.proofs.Going.{laid_as}
 use Rattle.run.proofs.Taking.{whole}
 use Rattle.run.proofs.reports.write_run.Goals as goal
 
-pub returns-in_ok-write_book-in-Ok-take_rules : goal.returns-in_ok-write_book-in-Ok-take_rules
-returns-in_ok-write_book-in-Ok-take_rules c =
+pub returns-in_ok-writeln-in-Ok-take_rules-clause-table : goal.returns-in_ok-writeln-in-Ok-take_rules-clause-table
+returns-in_ok-writeln-in-Ok-take_rules-clause-table c =
     let n = length c.args.lines.now in
     let m = model_of c.take_rules.new.inspection in
     let rules = c.in-Ok-take_rules.rules in
@@ -21,11 +20,5 @@ returns-in_ok-write_book-in-Ok-take_rules c =
     let taken-table : c.take_rules.new.inspection.lines.now ≡ overlay m.lines c.args.lines.now = c.take_rules.ensures.table ∙ ap (overlay m.lines) c.open-inspection.ensures.table in
     let laid : s'.lines.now ≡ overlay (model_of s').lines c.args.lines.now = c.write_work.ensures.table ∙ ap (overlay (model_of s').lines) taken-table ∙ overlay_twice m.lines (model_of s').lines c.args.lines.now c.write_work.ensures.grows in
     let left = IfOk-weaker c.write_work.result _ _ (λ _ e. e ∙ ap (made_by c.args.work.now) (sym taken_in)) c.write_work.ensures.left in
-    let before = string_bytes c.args.text.now in
-    let lines = work_text m 0 (items_of (source.Work m.indices) c.args.work.now) in
-    let first = c.in_ok-write_book-in-Ok-take_rules.ensures ∙ ap (λ k. before ++ book_text k rules) c.indices.ensures in
     let named = sym (c.write_work.ensures.lent ∙ c.take_rules.ensures.lent ∙ c.open-inspection.ensures.lent) in
-    record {
-      text = IfOk-weaker c.write_work.result _ _ (λ _ e. e ∙ ap (λ t. t ++ lines) first ∙ append_assoc before (book_text m.indices rules) lines ∙ ap (λ b. before ++ run_text c.args.work.now b) (sym taken_in)) c.write_work.ensures.text;
-      table = laid_as c.write_work.result _ (model_of s').lines _ c.args.lines.now (c.lines-in-Ok-take_rules-1.given.1.1 named ∙ laid) left;
-    }
+    laid_as c.write_work.result _ (model_of s').lines _ c.args.lines.now (c.lines-in-Ok-take_rules-1.given.1.1 named ∙ laid) left
