@@ -9,8 +9,7 @@ fn literal_holds<P: Plan>(plan: &P, literal: Literal, state: u16) -> bool
     requires { state < (P.Plan.system plan.now).states }
     ensures { result ≡ literal_at (P.Plan.system plan.now) state literal }
 {
-    let holds = plan.holds(state, literal.0 / 2);
-    if literal.0 % 2 == 0 { holds } else { !holds }
+    plan.holds(state, literal.atom()) == literal.asserts()
 }
 
 // Whether every literal of a left holds at a state.
