@@ -1,5 +1,5 @@
 -- Sides made from lists: what has place, what stays, and how opposites are laid in. Assumes nothing.
-use Rattle.std.proofs.Common.{◌≡◌, ℕ, suc, ◌+◌, ◌-◌, ◌<◌, ◌≤◌, Bool, true, false, not, cond, leb, List, [], ◌∷◌, ◌++◌, length, get_or, take, drop, set, replicate, Some, None, Less, sym, refl, ap, ◌∙◌, append_assoc, arith, le-leb}
+use Rattle.std.proofs.Common.{length-drop, ◌≡◌, ℕ, suc, ◌+◌, ◌-◌, ◌<◌, ◌≤◌, Bool, true, false, not, cond, leb, List, [], ◌∷◌, ◌++◌, length, get_or, take, drop, set, replicate, Some, None, Less, sym, refl, ap, ◌∙◌, append_assoc, arith, le-leb}
 use Rattle.std.proofs.lemmas.List.{drop-replicate, length-append, take-append-drop, take_at, take_more}
 use Rattle.std.proofs.Math.Seq.{set-append_seam}
 use Rattle.std.specs.Ordering.{is_eq, is_lt}
@@ -60,17 +60,29 @@ pub opposites_length : (xs : List Literal) → length (opposites xs) ≤ length 
 opposites_length [] = omega arith
 opposites_length (x ∷ xs) = omega (arith, insert_length (opposite x) (opposites xs), opposites_length xs)
 
+pub one_fits : (x : Literal) (ys : List Literal) → length ys < 16 → side_for (insert literal_rank x ys) ≡ Some (side_of (insert literal_rank x ys))
+one_fits x ys few = side_fits (insert literal_rank x ys) (omega (arith, insert_length x ys))
+
 -- the opposite of the first literal, laid into those of the others
 pub one_opposite : (items others : List Literal) (o : Literal) → 1 ≤ length items → others ≡ opposites (drop 1 items) → o ≡ opposite (get_or items 0 zero) → insert literal_rank o others ≡ opposites items
 one_opposite [] others o some is first = absurd (omega arith)
 one_opposite (x ∷ xs) others o some is first = λ i. insert literal_rank (first i) (is i)
 
+-- and the side that they make
+pub one_laid : (items others : List Literal) (o : Literal) (made : Side) → 1 ≤ length items → length items ≤ 16 → others ≡ opposites (drop 1 items) → o ≡ opposite (get_or items 0 zero) → Some made ≡ side_for (insert literal_rank o others) → made ≡ side_of (opposites items)
+one_laid items others o made some most is first e =
+    let few : length others < 16 = omega (arith, ap length is, opposites_length (drop 1 items), length-drop 1 items) in
+    let fits = one_fits o others few in
+    let all = one_opposite items others o some is first in
+    cc
+
 pub no_opposite : (items : List Literal) → length items < 1 → side_of [] ≡ side_of (opposites items)
 no_opposite [] none = refl
 no_opposite (x ∷ xs) none = absurd (omega arith)
 
-pub one_fits : (x : Literal) (ys : List Literal) → length ys < 16 → side_for (insert literal_rank x ys) ≡ Some (side_of (insert literal_rank x ys))
-one_fits x ys few = side_fits (insert literal_rank x ys) (omega (arith, insert_length x ys))
+-- the places beyond hold 0
+pub rest_zero : (n : ℕ) → drop n (replicate 16 zero) ≡ replicate (16 - n) zero
+rest_zero n = drop-replicate n 16 zero
 
 -- one more literal behind the others
 pub pushed : (xs : List Literal) (x : Literal) → length xs < 16 → set (side_of xs).places (length xs) x ≡ (side_of (xs ++ x ∷ [])).places

@@ -33,6 +33,7 @@ impl Side {
     };
 
     // The side of these literals, where they fit.
+    #[tactic(auto, using(crate::proofs::Joining::side_fits, crate::proofs::Joining::rest_zero))]
     pub fn of(items: &[Literal]) -> Option<Side>
         ensures { result ≡ side_for items.now }
     {
