@@ -157,3 +157,9 @@ join_ascends xs ys up = union_ascends literal_order xs ys up
 
 pub join_none : (xs ys : List Literal) → length xs ≡ 0 → length ys ≡ 0 → join xs ys ≡ []
 join_none xs ys = union_none literal_rank xs ys
+
+-- what a join that fits is
+pub ruleset joins = (literal_order, not_fitting, fitting_side)
+
+-- what the sides of opposites, and of a goal and its wait, are
+pub ruleset made_sides = (literals_of, no_opposite, one_fits, opposites_ascend, opposites_length, pair_ascends, pair_side)

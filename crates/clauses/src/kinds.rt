@@ -46,6 +46,7 @@ impl Kind {
     }
 
     // The kind that a number and an index name where there are `indices` indices.
+    // A call names a kind by numbers, and so do the bytes of a file.
     pub fn named(number: u8, index: u8, indices: u8) -> Option<Kind>
         ensures { result ≡ kind_of number index indices }
     {

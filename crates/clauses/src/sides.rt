@@ -26,7 +26,7 @@ pub(crate) fn contains(side: &[Literal], literal: Literal) -> bool
 }
 
 // The side of the literals of both, where it has place.
-#[tactic(auto, using(crate::specs::Literals::literal_order, crate::proofs::Joining::not_fitting, crate::proofs::Joining::fitting_side))]
+#[tactic(auto, using(crate::proofs::Joining::joins))]
 pub(crate) fn joined(a: &[Literal], b: &[Literal]) -> Option<Side>
     ensures { ascends a.now ≡ true → ascends b.now ≡ true → result ≡ side_for (join a.now b.now) }
 {
@@ -53,7 +53,7 @@ pub(crate) fn without(items: &[Literal], gone: Literal) -> Side
 }
 
 // The side of the opposites of these literals.
-#[tactic(auto, using(crate::proofs::Joining::literals_of, crate::proofs::Joining::no_opposite, crate::proofs::Joining::one_fits, crate::proofs::Joining::opposites_ascend, crate::proofs::Joining::opposites_length))]
+#[tactic(auto, using(crate::proofs::Joining::made_sides))]
 pub(crate) fn opposites(items: &[Literal]) -> Side
     requires { length items.now ≤ 16 }
     ensures { result ≡ side_of (opposites items.now) }

@@ -21,7 +21,7 @@ fn clash_joined(one: &Side, two: &Side, literal: Literal) -> Option<Side>
 }
 
 // The opposites of a left, a goal and its wait, where they have place.
-#[tactic(auto, using(crate::proofs::Joining::literals_of, crate::proofs::Joining::opposites_ascend, crate::proofs::Joining::pair_ascends, crate::proofs::Joining::pair_side))]
+#[tactic(auto, using(crate::proofs::Joining::made_sides))]
 fn entered_right(left: &Side, goal: Literal, wait: Literal) -> Option<Side>
     ensures { result ≡ side_for (join (opposites (literals left.now)) (join (goal ∷ []) (wait ∷ []))) }
 {

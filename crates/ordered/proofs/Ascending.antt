@@ -19,11 +19,6 @@ equal_from_test Less e = absurd (false≢true e)
 equal_from_test Equal e = refl
 equal_from_test Greater e = absurd (false≢true e)
 
-pub test_from_not_less : (r : Ordering) → (r ≡ Less → ⊥) → is_lt r ≡ false
-test_from_not_less Less n = absurd (n refl)
-test_from_not_less Equal n = refl
-test_from_not_less Greater n = refl
-
 -- ---- at any comparison
 
 module _ {X : Type 0} (cmp : X → X → Ordering) where

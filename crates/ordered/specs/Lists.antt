@@ -1,6 +1,7 @@
 -- Lists in the order that a comparison gives. Assumes nothing.
-use Rattle.std.specs.Prelude.{ℕ, zero, suc, Bool, true, false, cond, ◌&&◌, ◌||◌, List, [], ◌∷◌, Some, None, Option}
+use Rattle.std.specs.Prelude.{◌≡◌, ℕ, zero, suc, Bool, true, false, cond, ◌&&◌, ◌||◌, List, [], ◌∷◌, Some, None, Option}
 use Rattle.std.specs.declared.cmp.Ordering.{Ordering}
+use Rattle.std.specs.Cmp.{IsTotalOrder}
 use Rattle.std.specs.Option.{option_map}
 use Rattle.std.specs.Ordering.{is_eq, is_lt}
 
@@ -29,3 +30,7 @@ within cmp (x ∷ xs) outer = holds cmp outer x && within cmp xs outer
 abbrev pub count_below : {X : Type 0} → (X → X → Ordering) → List X → X → ℕ
 count_below cmp [] x = zero
 count_below cmp (y ∷ ys) x = cond (is_lt (cmp y x)) (suc (count_below cmp ys x)) (count_below cmp ys x)
+
+-- P, where the order is lawful and the list ascends
+abbrev pub IfAscending : {X : Type 0} → (X → X → Ordering) → List X → Type 0 → Type 0
+IfAscending cmp xs P = IsTotalOrder cmp → ascending cmp xs ≡ true → P

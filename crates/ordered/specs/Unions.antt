@@ -20,11 +20,13 @@ union cmp (x ∷ a) b = insert cmp x (union cmp a b)
 abbrev pub Leads : {X : Type 0} → (X → X → Ordering) → List X → List X → X → List X → List X → Type 0
 Leads cmp a b x c d = (union cmp a b ≡ x ∷ union cmp c d) × (ascending cmp c ≡ true) × (ascending cmp d ≡ true)
 
+-- P, where the order is lawful and both lists ascend
+abbrev pub IfBothAscend : {X : Type 0} → (X → X → Ordering) → List X → List X → Type 0 → Type 0
+IfBothAscend cmp a b P = IsTotalOrder cmp → ascending cmp a ≡ true → ascending cmp b ≡ true → P
+
 -- a step of a walk over a and b that ascend: it gives nothing where their union is empty, and otherwise its first element, x, and leaves c and d
 abbrev pub Walks : {X : Type 0} → (X → X → Ordering) → List X → List X → Option (Bor X) → List X → List X → Type 0
-Walks cmp a b r c d =
-    (o : IsTotalOrder cmp) → ascending cmp a ≡ true → ascending cmp b ≡ true
-    → MatchOption r (union cmp a b ≡ []) (λ x. Leads cmp a b x.now c d)
+Walks cmp a b r c d = IfBothAscend cmp a b (MatchOption r (union cmp a b ≡ []) (λ x. Leads cmp a b x.now c d))
 
 -- n, where there is room for n
 abbrev pub fitting : ℕ → ℕ → Option ℕ

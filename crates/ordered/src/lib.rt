@@ -5,9 +5,9 @@ ghost use Rattle.std.specs.declared.cmp.Ordering.TheVariants.{Equal};
 ghost use Rattle.std.specs.Cmp.{IsTotalOrder};
 ghost use Rattle.std.specs.Iterator.{at_most};
 ghost use Rattle.std.specs.List.{HoldsAt};
-ghost use Rattle.ordered.specs.Lists.{ascending, count_below, holds, place, within};
+ghost use Rattle.ordered.specs.Lists.{ascending, count_below, holds, place, within, IfAscending};
 ghost use Rattle.ordered.specs.Pairs.{pair_rank};
-ghost use Rattle.ordered.specs.Unions.{union, Walks, fitting};
+ghost use Rattle.ordered.specs.Unions.{union, IfBothAscend, Walks, fitting};
 
 use std::cmp::Ordering;
 
@@ -37,7 +37,7 @@ pub fn pairs_ascend(items: &[Pair]) -> bool
 #[tactic(auto, using(crate::proofs::Holding::found_there, crate::proofs::Holding::search_place))]
 pub fn find<T: Ord>(items: &[T], wanted: &T) -> Option<usize>
     ensures there { IfSome result (λ i. (i < length items.now) × HoldsAt (λ x. T.Ord.cmp x wanted.now ≡ Equal) items.now i) }
-    ensures is { (o : IsTotalOrder T.Ord.cmp) → ascending T.Ord.cmp items.now ≡ true → result ≡ place T.Ord.cmp items.now wanted.now }
+    ensures is { IfAscending T.Ord.cmp items.now (result ≡ place T.Ord.cmp items.now wanted.now) }
 {
     items.binary_search(wanted).ok()
 }
@@ -45,14 +45,14 @@ pub fn find<T: Ord>(items: &[T], wanted: &T) -> Option<usize>
 // How many elements of an ascending list are below `wanted`.
 pub fn lower<T: Ord>(items: &[T], wanted: &T) -> usize
     ensures within { result ≤ length items.now }
-    ensures is { (o : IsTotalOrder T.Ord.cmp) → ascending T.Ord.cmp items.now ≡ true → result ≡ count_below T.Ord.cmp items.now wanted.now }
+    ensures is { IfAscending T.Ord.cmp items.now (result ≡ count_below T.Ord.cmp items.now wanted.now) }
 {
     items.partition_point(|x| x < wanted)
 }
 
 // Whether an ascending list has each element of the other.
 pub fn contains_all<T: Ord>(outer: &[T], inner: &[T]) -> bool
-    ensures { (o : IsTotalOrder T.Ord.cmp) → ascending T.Ord.cmp outer.now ≡ true → result ≡ within T.Ord.cmp inner.now outer.now }
+    ensures { IfAscending T.Ord.cmp outer.now (result ≡ within T.Ord.cmp inner.now outer.now) }
 {
     inner.iter().all(|wanted| find(outer, wanted).is_some())
 }
@@ -105,9 +105,9 @@ impl<'a, T: Ord> Iterator for Union<'a, T> {
 #[tactic(auto, using(crate::proofs::Uniting::union_ascends, crate::proofs::Uniting::union_holds))]
 pub fn join<T: Ord + Copy>(a: &[T], b: &[T], out: &mut [T]) -> Option<usize>
     ensures rest { MatchOption result (out.new ≡ out.old) (λ n. (n ≤ length out.old) × (drop n out.new ≡ drop n out.old)) }
-    ensures counts { (o : IsTotalOrder T.Ord.cmp) → ascending T.Ord.cmp a.now ≡ true → ascending T.Ord.cmp b.now ≡ true → result ≡ fitting (length (union T.Ord.cmp a.now b.now)) (length out.old) }
-    ensures written { (o : IsTotalOrder T.Ord.cmp) → ascending T.Ord.cmp a.now ≡ true → ascending T.Ord.cmp b.now ≡ true → IfSome result (λ n. take n out.new ≡ union T.Ord.cmp a.now b.now) }
-    ensures sorted { (o : IsTotalOrder T.Ord.cmp) → ascending T.Ord.cmp b.now ≡ true → ascending T.Ord.cmp (union T.Ord.cmp a.now b.now) ≡ true }
+    ensures counts { IfBothAscend T.Ord.cmp a.now b.now (result ≡ fitting (length (union T.Ord.cmp a.now b.now)) (length out.old)) }
+    ensures written { IfBothAscend T.Ord.cmp a.now b.now (IfSome result (λ n. take n out.new ≡ union T.Ord.cmp a.now b.now)) }
+    ensures sorted { IfAscending T.Ord.cmp b.now (ascending T.Ord.cmp (union T.Ord.cmp a.now b.now) ≡ true) }
     ensures members { (o : IsTotalOrder T.Ord.cmp) (x : T) → holds T.Ord.cmp (union T.Ord.cmp a.now b.now) x ≡ (holds T.Ord.cmp a.now x || holds T.Ord.cmp b.now x) }
 {
     if (Union { a, b }).nth(out.len()).is_some() {

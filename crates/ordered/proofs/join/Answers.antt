@@ -1,4 +1,4 @@
-use Rattle.std.proofs.Common.{true, [], ◌≡◌, ◌+◌, List, ◌++◌, length, take, drop, sym, ap, ◌∙◌, arith}
+use Rattle.std.proofs.Common.{get_or, true, [], ◌≡◌, ◌+◌, List, ◌++◌, length, take, drop, sym, ap, ◌∙◌, arith}
 use Rattle.std.proofs.lemmas.Bool.{ltb-false, ltb-true}
 use Rattle.std.proofs.lemmas.List.{drop-drop, drop-set-lt, take-set}
 use Rattle.std.specs.Cmp.{IsTotalOrder}
@@ -11,17 +11,17 @@ use Rattle.ordered.proofs.join.Goals.{After-loop-count}
 
 pub returns-then-is_some-clause-counts : goal.returns-then-is_some-clause-counts
 returns-then-is_some-clause-counts g c = λ o h k.
-    sym (fitting_none _ _ (ltb-true _ _ (past o (record { a = c.args.a; b = c.args.b }) c.nth.new.self _ c.nth.result c.nth.ensures.ran h k ∙ sym c.is_some.ensures ∙ c.if-is_some.true)))
+    sym (fitting_none (length (union g.T.Ord.cmp c.args.a.now c.args.b.now)) (length c.args.out.now) (ltb-true (length c.args.out.now) (length (union g.T.Ord.cmp c.args.a.now c.args.b.now)) (past o (record { a = c.args.a; b = c.args.b }) c.nth.new.self _ c.nth.result c.nth.ensures.ran h k ∙ sym c.is_some.ensures ∙ c.if-is_some.true)))
 
 pub returns-in_default-clause-counts : goal.returns-in_default-clause-counts
 returns-in_default-clause-counts g c = λ o h k.
     let so = c.loop-count.invariant.written o h k in
-    all_counted _ c.loop-count.out _ c.loop-count.count (omega arith) so.0 (length c.args.out.now) (omega arith) (c.in_default.ensures.steps o so.1 so.2)
+    all_counted (union g.T.Ord.cmp c.args.a.now c.args.b.now) c.loop-count.out (union g.T.Ord.cmp c.loop-count.union.a.now c.loop-count.union.b.now) c.loop-count.count (omega arith) so.0 (length c.args.out.now) (omega arith) (c.in_default.ensures.steps o so.1 so.2)
 
 pub returns-in_default-clause-written : goal.returns-in_default-clause-written
 returns-in_default-clause-written g c = λ o h k.
     let so = c.loop-count.invariant.written o h k in
-    take-set c.loop-count.out c.loop-count.count _ ∙ all_written _ c.loop-count.out _ c.loop-count.count (omega arith) so.0 (c.in_default.ensures.steps o so.1 so.2)
+    take-set c.loop-count.out c.loop-count.count (get_or c.loop-count.out c.loop-count.count c.index-out-count.result) ∙ all_written (union g.T.Ord.cmp c.args.a.now c.args.b.now) c.loop-count.out (union g.T.Ord.cmp c.loop-count.union.a.now c.loop-count.union.b.now) c.loop-count.count (omega arith) so.0 (c.in_default.ensures.steps o so.1 so.2)
 
 pub loop-count-preserved : goal.loop-count-preserved
 loop-count-preserved g c = record {
@@ -55,8 +55,8 @@ module _ (g : given.Over) (c : After-loop-count g) (o : IsTotalOrder g.T.Ord.cmp
 
 pub returns-clause-counts : goal.returns-clause-counts
 returns-clause-counts g c = λ o h k.
-    all_counted _ c.loop-count.out _ (length c.loop-count.out) (omega arith) (made g c o h k) (length c.args.out.now) (omega arith) (none g c o h k)
+    all_counted (all g c o h k) c.loop-count.out (left g c o h k) (length c.loop-count.out) (omega arith) (made g c o h k) (length c.args.out.now) (omega arith) (none g c o h k)
 
 pub returns-clause-written : goal.returns-clause-written
 returns-clause-written g c = λ o h k.
-    all_written _ c.loop-count.out _ (length c.loop-count.out) (omega arith) (made g c o h k) (none g c o h k)
+    all_written (all g c o h k) c.loop-count.out (left g c o h k) (length c.loop-count.out) (omega arith) (made g c o h k) (none g c o h k)

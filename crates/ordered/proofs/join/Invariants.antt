@@ -1,7 +1,6 @@
 use Rattle.std.proofs.Common.{◌≡◌, true, ◌++◌, take, drop}
-use Rattle.std.specs.Cmp.{IsTotalOrder}
 use Rattle.ordered.specs.Lists.{ascending}
-use Rattle.ordered.specs.Unions.{union}
+use Rattle.ordered.specs.Unions.{union, IfBothAscend}
 use Rattle.ordered.proofs.join.Given as goal
 
 -- what was written and what is left make up the union, and the rest of `out` is as it was
@@ -9,5 +8,5 @@ abbrev pub invariant-loop-count : goal.invariant-loop-count
 invariant-loop-count g l =
     record {
       rest : drop l.count l.out ≡ drop l.count l.initial.out;
-      written : (o : IsTotalOrder g.T.Ord.cmp) → ascending g.T.Ord.cmp l.initial.a ≡ true → ascending g.T.Ord.cmp l.initial.b ≡ true → (union g.T.Ord.cmp l.initial.a l.initial.b ≡ take l.count l.out ++ union g.T.Ord.cmp l.union.a.now l.union.b.now) × (ascending g.T.Ord.cmp l.union.a.now ≡ true) × (ascending g.T.Ord.cmp l.union.b.now ≡ true);
+      written : IfBothAscend g.T.Ord.cmp l.initial.a l.initial.b ((union g.T.Ord.cmp l.initial.a l.initial.b ≡ take l.count l.out ++ union g.T.Ord.cmp l.union.a.now l.union.b.now) × (ascending g.T.Ord.cmp l.union.a.now ≡ true) × (ascending g.T.Ord.cmp l.union.b.now ≡ true));
     }
