@@ -1,5 +1,6 @@
 -- Each step makes the conclusion of a rule of the calculus, and every conclusion of a rule is made. Assumes nothing.
 use Rattle.std.proofs.Common.{◌≡◌, ℕ, ◌+◌, ◌-◌, ◌%◌, Bool, true, false, cond, not, ◌&&◌, ◌||◌, eqb, List, [], ◌∷◌, length, Some, None, Option, sym, refl, ap, ◌∙◌, subst, inl, inr, ⊎_elim, true≢false, arith, eq-eqb, eqb-true}
+use Rattle.std.proofs.Math.Bool.{and-false, or-false, or-true, or_comm}
 use Rattle.std.specs.Cmp.{unsigned_tied}
 use Rattle.std.specs.Option.{option_map}
 use Rattle.std.specs.Ordering.{is_eq}
@@ -47,12 +48,8 @@ same_turned m n =
 
 -- ---- sets of lists
 
-or_nothing : (b : Bool) → (b || false) ≡ b
-or_nothing true = refl
-or_nothing false = refl
-
 pub set_one : (l : Literal) → set_of (l ∷ []) ≡ one l
-set_one l = λ i z. (or_nothing _ ∙ unsigned_tied l.0 z.0) i
+set_one l = λ i z. (or-false _ ∙ unsigned_tied l.0 z.0) i
 
 pub set_join : (xs ys : List Literal) → set_of (join xs ys) ≡ (set_of xs ∪ set_of ys)
 set_join xs ys = λ i z. union_holds literal_order xs ys z i
@@ -114,11 +111,7 @@ split : (C : Set) (l : Literal) → C l ≡ true → C ≡ (minus C l ∪ one l)
 split C l h = λ i z. rest_and (C z) (same l z) (λ e. ap C (sym (one_literal l z e)) ∙ h) i
 
 gone : (C : Set) (l : Literal) → minus C l l ≡ false
-gone C l = ap (λ b. C l && not b) (same_itself l) ∙ nothing (C l)
-  where
-    nothing : (b : Bool) → (b && false) ≡ false
-    nothing true = refl
-    nothing false = refl
+gone C l = ap (λ b. C l && not b) (same_itself l) ∙ and-false (C l)
 
 only_rest : (c s : Bool) → (s ≡ true → c ≡ false) → ((c || s) && not s) ≡ c
 only_rest true true h = sym (h refl)
@@ -130,20 +123,10 @@ regain : (C : Set) (l : Literal) → C l ≡ false → minus (C ∪ one l) l ≡
 regain C l h = λ i z. only_rest (C z) (same l z) (λ e. ap C (sym (one_literal l z e)) ∙ h) i
 
 has_one : (C : Set) (l : Literal) → (C ∪ one l) l ≡ true
-has_one C l = ap (λ b. C l || b) (same_itself l) ∙ always (C l)
-  where
-    always : (b : Bool) → (b || true) ≡ true
-    always true = refl
-    always false = refl
-
-or_turn : (a b : Bool) → (a || b) ≡ (b || a)
-or_turn true true = refl
-or_turn true false = refl
-or_turn false true = refl
-or_turn false false = refl
+has_one C l = ap (λ b. C l || b) (same_itself l) ∙ or-true (C l)
 
 union_turn : (C D : Set) → (C ∪ D) ≡ (D ∪ C)
-union_turn C D = λ i z. or_turn (C z) (D z) i
+union_turn C D = λ i z. or_comm (C z) (D z) i
 
 nothing_there : (xs : List Literal) → eqb (length xs) 0 ≡ true → set_of xs ≡ none
 nothing_there [] h = refl

@@ -1,6 +1,6 @@
 -- Ascending lists: the head and the rest, and by places. Assumes nothing.
 use Rattle.std.proofs.Common.{Decides, ◌∙◌, subst, ◌≡◌, ℕ, zero, suc, ◌<◌, Bool, true, false, List, [], ◌∷◌, length, get_or, Ordering, Less, Equal, Greater, sym, refl, ap, add-one, arith}
-use Rattle.std.specs.Cmp.{IsTotalOrder}
+use Rattle.std.specs.Cmp.{Equal-is, IsTotalOrder}
 use Rattle.std.specs.Ordering.{is_eq, is_lt}
 use Rattle.std.specs.List.{AllAdjacentBelow, IsAllAdjacentAnswer, AllByRecursion as All}
 use Rattle.std.proofs.ByRecursion.{All-get_or, All-weaker}
@@ -15,9 +15,7 @@ less_from_test Equal e = absurd (false≢true e)
 less_from_test Greater e = absurd (false≢true e)
 
 pub equal_from_test : (r : Ordering) → is_eq r ≡ true → r ≡ Equal
-equal_from_test Less e = absurd (false≢true e)
-equal_from_test Equal e = refl
-equal_from_test Greater e = absurd (false≢true e)
+equal_from_test r = (Equal-is r).0
 
 -- ---- at any comparison
 

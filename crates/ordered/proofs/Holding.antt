@@ -10,6 +10,7 @@ use Rattle.std.proofs.ByRecursion.{All-from_get_or, All-weaker, Decides-by_and}
 use Rattle.std.proofs.lemmas.List.Sorted.{searchable_from_sorted}
 use Rattle.std.proofs.lemmas.Bool.{false≢true, cases_Bool, cases_lt, cond-true, cond-false, or_from, or_left}
 use Rattle.std.proofs.lemmas.Bool.Decides.{Decides-by_or}
+use Rattle.std.proofs.lemmas.Cmp.{tied_itself}
 use Rattle.ordered.specs.Lists.{ascending, count_below, holds, place, within}
 use Rattle.ordered.proofs.Ascending.{equal_from_test, less_from_test, ascending_head, ascending_places, ascending_tail}
 
@@ -101,20 +102,12 @@ parted_below {R = R} o xs x asc i j d le lt below =
 
 -- ---- what ascending lists hold tells them apart
 
-own : (r : Ordering) → r ≡ ordering_reverse r → r ≡ Equal
-own Less e = absurd (false≢true (sym (ap is_lt e)))
-own Equal e = refl
-own Greater e = absurd (false≢true (ap is_lt e))
-
 later : (p q s t : Bool) → p ≡ false → q ≡ false → (p || s) ≡ (q || t) → s ≡ t
 later p q s t e f h = ap (λ b. b || s) (sym e) ∙ h ∙ ap (λ b. b || t) f
 
 module _ {X : Type 0} {R : X → X → Ordering} (o : IsTotalOrder R) where
-  pub ties_itself : (x : X) → R x x ≡ Equal
-  ties_itself x = own (R x x) (o.antisymm x x)
-
   pub holds_head : (x : X) (xs : List X) → holds R (x ∷ xs) x ≡ true
-  holds_head x xs = or_left (is_eq (R x x)) (holds R xs x) (ap is_eq (ties_itself x))
+  holds_head x xs = or_left (is_eq (R x x)) (holds R xs x) (ap is_eq (tied_itself o x))
 
   -- what ties with an element that is below all of a list is not held by it
   pub below_not_held : (x z : X) (ys : List X) → R x z ≡ Equal → All (λ y. R x y ≡ Less) ys → holds R ys z ≡ false
@@ -125,7 +118,7 @@ module _ {X : Type 0} {R : X → X → Ordering} (o : IsTotalOrder R) where
   -- an ascending list holds nothing that is below its head
   pub under_not_held : (x y : X) (ys : List X) → R x y ≡ Less → ascending R (y ∷ ys) ≡ true → holds R (y ∷ ys) x ≡ false
   under_not_held x y ys e k =
-      below_not_held x x (y ∷ ys) (ties_itself x)
+      below_not_held x x (y ∷ ys) (tied_itself o x)
       (e, All-weaker (λ z. R y z ≡ Less) (λ z. R x z ≡ Less) (λ z less. o.trans x y z e less) ys (ascending_head o y ys k))
 
   tails : (x y : X) (xs ys : List X) → R x y ≡ Equal → ascending R (x ∷ xs) ≡ true → ascending R (y ∷ ys) ≡ true → ((z : X) → holds R (x ∷ xs) z ≡ holds R (y ∷ ys) z) → (z : X) → holds R xs z ≡ holds R ys z

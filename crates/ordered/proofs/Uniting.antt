@@ -1,5 +1,6 @@
 -- The union of two lists: what it holds, that it ascends, and its first element. Assumes nothing.
-use Rattle.std.proofs.Common.{Bor, Option, ltb, ◌≡◌, ℕ, ◌+◌, ◌<◌, ◌≤◌, Bool, true, false, cond, ◌||◌, leb, List, [], ◌∷◌, ◌++◌, length, take, set, is_some, Some, None, Ordering, Less, Equal, Greater, sym, refl, ap, ◌∙◌, subst, append-nil, append_assoc, arith}
+use Rattle.std.proofs.Common.{Bor, Option, ltb, ◌≡◌, ℕ, ◌+◌, ◌<◌, ◌≤◌, Bool, true, cond, ◌||◌, leb, List, [], ◌∷◌, ◌++◌, length, take, set, is_some, Some, None, Ordering, Less, Equal, Greater, sym, refl, ap, ◌∙◌, subst, append-nil, append_assoc, arith}
+use Rattle.std.proofs.Math.Bool.{or_assoc, or_comm, or_self_left}
 use Rattle.std.specs.Cmp.{IsTotalOrder, alike_right}
 use Rattle.std.specs.Ordering.{is_eq, is_lt, ordering_reverse}
 use Rattle.std.specs.List.{AllByRecursion as All}
@@ -12,18 +13,11 @@ use Rattle.ordered.specs.declared.Union.{Union}
 use Rattle.std.specs.Iterator.{SkipsThenYields, Yields}
 use Rattle.ordered.proofs.Ascending.{ascending_cons, ascending_head, ascending_tail}
 
-or_assoc : (p q r : Bool) → ((p || q) || r) ≡ (p || (q || r))
-or_assoc true q r = refl
-or_assoc false q r = refl
-
 or_swap : (p q r : Bool) → (p || (q || r)) ≡ (q || (p || r))
-or_swap true true r = refl
-or_swap true false r = refl
-or_swap false q r = refl
+or_swap p q r = sym (or_assoc p q r) ∙ ap (λ t. t || r) (or_comm p q) ∙ or_assoc q p r
 
 or_twice : (p r : Bool) → (p || r) ≡ (p || (p || r))
-or_twice true r = refl
-or_twice false r = refl
+or_twice p r = sym (or_self_left p r)
 
 -- what `insert` gives at an answer, where more is the rest with x inserted
 abbrev put : {X : Type 0} → Ordering → X → X → List X → List X → List X
