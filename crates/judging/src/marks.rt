@@ -80,6 +80,7 @@ impl<'p, 'm, P: Plan> Marked<'p, 'm, P> {
     {
         let states = self.marks.len();
         let mut grown = false;
+        // The order is a flag: a lent iterator would have to promise that it ends and that it passes every state.
         for step in 0..states {
             let state = state_at(states, up, step);
             if self.marks[state] == 0 && self.next_marked(scope, state as u16) {

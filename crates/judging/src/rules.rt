@@ -40,6 +40,7 @@ impl<'p, 'm, P: Plan> Marked<'p, 'm, P> {
         ensures lent { self.new.marks.ghost_name ≡ self.old.marks.ghost_name }
         ensures told { AllFit (P.Plan.system self.old.plan.now) rules.now → result ≡ judgement (P.Plan.system self.old.plan.now) rules.now }
     {
+        // Two labelled loops, left at the first break: a required form.
         let mut judgement = Judgement::Kept;
         'rules: for (number, rule) in rules.iter().enumerate() {
             if !rule.mark {
@@ -68,6 +69,7 @@ fn judge_marked<P: Plan>(plan: &P, rules: &[Line], marks: &mut [u8]) -> Judgemen
     ensures told { AllFit (P.Plan.system plan.now) rules.now → result ≡ judgement (P.Plan.system plan.now) rules.now }
     ensures cleared { marks.new ≡ replicate (length marks.old) 0 }
 {
+    // By itself, since a proof follows a whole slice into a struct and out again, and not a part of one.
     let mut marked = Marked { plan, marks };
     let judgement = marked.judged(rules);
     marked.clear();
