@@ -55,7 +55,7 @@ impl<'p, 'm, P: Plan> Marked<'p, 'm, P> {
     #[tactic(auto, using(crate::proofs::Targets::target_stays, crate::proofs::Targets::free_target_stays))]
     pub(crate) fn next_marked(&self, scope: Scope, state: u16) -> bool
         requires { state < length self.now.marks.now }
-        ensures { Speaks (P.Plan.system self.now.plan.now) scope → result ≡ every_next (P.Plan.system self.now.plan.now) scope (marked self.now.marks.now) state }
+        ensures { let sys = P.Plan.system self.now.plan.now in Speaks sys scope → result ≡ every_next sys scope (marked self.now.marks.now) state }
     {
         match scope {
             Scope::All => {
@@ -74,9 +74,9 @@ impl<'p, 'm, P: Plan> Marked<'p, 'm, P> {
         ensures plan { self.new.plan ≡ self.old.plan }
         ensures lent { self.new.marks.ghost_name ≡ self.old.marks.ghost_name }
         ensures grows { Grows self.old.marks.now self.new.marks.now }
-        ensures within { Speaks (P.Plan.system self.old.plan.now) scope → (p : ℕ → Bool) → Within self.old.marks.now (sooner (P.Plan.system self.old.plan.now) scope p) → Within self.new.marks.now (sooner (P.Plan.system self.old.plan.now) scope p) }
+        ensures within { let sys = P.Plan.system self.old.plan.now in Speaks sys scope → (p : ℕ → Bool) → Within self.old.marks.now (sooner sys scope p) → Within self.new.marks.now (sooner sys scope p) }
         ensures more { result ≡ true → unmarked self.new.marks.now < unmarked self.old.marks.now }
-        ensures closed { Speaks (P.Plan.system self.old.plan.now) scope → result ≡ false → Closed (P.Plan.system self.old.plan.now) scope self.new.marks.now }
+        ensures closed { let sys = P.Plan.system self.old.plan.now in Speaks sys scope → result ≡ false → Closed sys scope self.new.marks.now }
     {
         let states = self.marks.len();
         let mut grown = false;
@@ -96,7 +96,7 @@ impl<'p, 'm, P: Plan> Marked<'p, 'm, P> {
     fn grow(&mut self, scope: Scope)
         ensures plan { self.new.plan ≡ self.old.plan }
         ensures lent { self.new.marks.ghost_name ≡ self.old.marks.ghost_name }
-        ensures shown { Speaks (P.Plan.system self.old.plan.now) scope → (p : ℕ → Bool) → Shows self.old.marks.now p → Shows self.new.marks.now (sooner (P.Plan.system self.old.plan.now) scope p) }
+        ensures shown { let sys = P.Plan.system self.old.plan.now in Speaks sys scope → (p : ℕ → Bool) → Shows self.old.marks.now p → Shows self.new.marks.now (sooner sys scope p) }
     {
         let mut up = false;
         while self.grow_once(scope, up) {
@@ -108,7 +108,7 @@ impl<'p, 'm, P: Plan> Marked<'p, 'm, P> {
     pub(crate) fn mark_asked(&mut self, rule: &Line)
         ensures plan { self.new.plan ≡ self.old.plan }
         ensures lent { self.new.marks.ghost_name ≡ self.old.marks.ghost_name }
-        ensures shown { Fits (P.Plan.system self.old.plan.now) rule.now.kind → Shows self.new.marks.now (asked (P.Plan.system self.old.plan.now) rule.now.kind (literals rule.now.right)) }
+        ensures shown { let sys = P.Plan.system self.old.plan.now in Fits sys rule.now.kind → Shows self.new.marks.now (asked sys rule.now.kind (literals rule.now.right)) }
     {
         self.mark_right(rule.right.literals());
         if let Kind::Sometime(scope) = rule.kind {

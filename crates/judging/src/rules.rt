@@ -22,7 +22,7 @@ impl<'p, 'm, P: Plan> Marked<'p, 'm, P> {
     // Whether the rule is broken at a state, with what it asks for marked.
     fn broken_at(&self, rule: &Line, state: usize) -> bool
         requires { state < length self.now.marks.now }
-        ensures { Fits (P.Plan.system self.now.plan.now) rule.now.kind → Shows self.now.marks.now (asked (P.Plan.system self.now.plan.now) rule.now.kind (literals rule.now.right)) → result ≡ breaks (P.Plan.system self.now.plan.now) rule.now state }
+        ensures { let sys = P.Plan.system self.now.plan.now in Fits sys rule.now.kind → Shows self.now.marks.now (asked sys rule.now.kind (literals rule.now.right)) → result ≡ breaks sys rule.now state }
     {
         match rule.kind {
             Kind::Start => state == 0 && self.marks[state] == 0,
@@ -38,7 +38,7 @@ impl<'p, 'm, P: Plan> Marked<'p, 'm, P> {
     fn judged(&mut self, rules: &[Line]) -> Judgement
         ensures plan { self.new.plan ≡ self.old.plan }
         ensures lent { self.new.marks.ghost_name ≡ self.old.marks.ghost_name }
-        ensures told { AllFit (P.Plan.system self.old.plan.now) rules.now → result ≡ judgement (P.Plan.system self.old.plan.now) rules.now }
+        ensures told { let sys = P.Plan.system self.old.plan.now in AllFit sys rules.now → result ≡ judgement sys rules.now }
     {
         // Two labelled loops, left at the first break: a required form.
         let mut judgement = Judgement::Kept;
