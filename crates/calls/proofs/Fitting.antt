@@ -64,7 +64,7 @@ joint_scope_under k (any_with b) h j = j
 joint_scope_under k (with_any i) h j = h
 joint_scope_under k (with_itself i) h j = h
 
-joint_under : (k : ℕ) {a b c : Kind} → Joint a b c → kind_under k a ≡ true → kind_under k b ≡ true → kind_under k c ≡ true
+pub joint_under : (k : ℕ) {a b c : Kind} → Joint a b c → kind_under k a ≡ true → kind_under k b ≡ true → kind_under k c ≡ true
 joint_under k start_start h j = refl
 joint_under k start_global h j = refl
 joint_under k global_start h j = refl
@@ -144,8 +144,8 @@ lines_fit sys m fit is n low = kind_fits sys m.indices (get_or m.lines n blank).
 
 judged_same : (a b : Judgement) → judged_as a ≡ judged_as b → a ≡ b
 judged_same Kept Kept e = refl
-judged_same Kept (Broken n s) e = let z : ◌≡◌ {A = ℕ} 0 1 = cc in absurd (omega arith)
-judged_same (Broken n s) Kept e = let z : ◌≡◌ {A = ℕ} 0 1 = cc in absurd (omega arith)
+judged_same Kept (Broken n s) e = absurd (cc)
+judged_same (Broken n s) Kept e = absurd (cc)
 judged_same (Broken n s) (Broken k t) e = let rule : n ≡ k = cc in let state : s ≡ t = cc in λ i. Broken (rule i) (state i)
 
 not_refused : (n : ℕ) (j : Judgement) → refused n ≡ judged_as j → ⊥

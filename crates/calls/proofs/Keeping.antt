@@ -1,8 +1,8 @@
 -- The lines made stay lawful. Assumes nothing.
-use Rattle.std.proofs.Common.{◌≡◌, ℕ, zero, suc, ◌<◌, ◌≤◌, Bool, true, false, cond, not, ◌&&◌, ◌||◌, eqb, ltb, leb, List, [], ◌∷◌, ◌++◌, length, get_or, is_some, Some, None, Option, sym, refl, ap, ◌∙◌, subst, true≢false, arith, eq-eqb}
-use Rattle.std.proofs.lemmas.Bool.{and_from, and_parts, not-false, or_right}
+use Rattle.std.proofs.Common.{◌≡◌, ℕ, zero, suc, ◌<◌, Bool, true, false, cond, not, ◌&&◌, ◌||◌, eqb, ltb, leb, List, [], ◌∷◌, ◌++◌, length, get_or, is_some, Some, None, Option, sym, refl, ap, ◌∙◌, subst, true≢false, arith, eq-eqb}
 use Rattle.std.specs.Option.{option_map}
 use Rattle.std.specs.List.{AllByRecursion as All}
+use Rattle.std.proofs.lemmas.Bool.{and_from, and_parts, not-false, or_right}
 use Rattle.clauses.specs.declared.kinds.Kind.{Kind}
 use Rattle.clauses.specs.declared.kinds.Scope.{Scope}
 use Rattle.clauses.specs.declared.kinds.Scope.TheVariants as scope
@@ -16,7 +16,6 @@ use Rattle.clauses.specs.Sides.{ascends}
 use Rattle.clauses.specs.Steps.{proper}
 use Rattle.clauses.proofs.Joining.{literals_of}
 use Rattle.calls.specs.declared.waits.Wait.{Wait}
-use Rattle.calls.specs.Calls.{line_at}
 use Rattle.calls.specs.Lawful.{indexed, lawful, lawful_line, sized, waited}
 use Rattle.calls.specs.Waits.{admitted, held, same_scope, same_wait, wait_of}
 
@@ -26,7 +25,7 @@ all_none [] h = tt
 all_none (c ∷ cs) h = by-test (all_none cs) c.1 refl h
   where
     by-test : (first_of cs ≡ None → All (λ d. d.1 ≡ false) cs) → (b : Bool) → c.1 ≡ b → cond b (Some c.0) (first_of cs) ≡ None → All (λ d. d.1 ≡ false) (c ∷ cs)
-    by-test later true e k = let z : ◌≡◌ {A = ℕ} 0 1 = cc in absurd (omega arith)
+    by-test later true e k = absurd (cc)
     by-test later false e k = (e, later k)
 
 -- ---- waits that are given out
@@ -75,15 +74,15 @@ waited_more ws o (Some w) h = held_admitted ws o w h
 line_more : (ws : List Wait) (o : Option Wait) (x : Line) → lawful_line ws x ≡ true → lawful_line (admitted ws o) x ≡ true
 line_more ws o x h =
     let rest = (and_parts (proper x) _ h).1 in
-    and_from (proper x) _ ((and_parts (proper x) _ h).0) (and_from (waited (admitted ws o) (wait_of x)) _ (waited_more ws o (wait_of x) ((and_parts (waited ws (wait_of x)) _ rest).0)) ((and_parts (waited ws (wait_of x)) _ rest).1))
+    and_from (proper x) _ (and_parts (proper x) _ h).0 (and_from (waited (admitted ws o) (wait_of x)) _ (waited_more ws o (wait_of x) (and_parts (waited ws (wait_of x)) _ rest).0) (and_parts (waited ws (wait_of x)) _ rest).1)
 
 pub lawful_more : (ws : List Wait) (o : Option Wait) (xs : List Line) → lawful ws xs ≡ true → lawful (admitted ws o) xs ≡ true
 lawful_more ws o [] h = refl
-lawful_more ws o (x ∷ xs) h = and_from (lawful_line (admitted ws o) x) _ (line_more ws o x ((and_parts (lawful_line ws x) _ h).0)) (lawful_more ws o xs ((and_parts (lawful_line ws x) _ h).1))
+lawful_more ws o (x ∷ xs) h = and_from (lawful_line (admitted ws o) x) _ (line_more ws o x (and_parts (lawful_line ws x) _ h).0) (lawful_more ws o xs (and_parts (lawful_line ws x) _ h).1)
 
 pub lawful_push : (ws : List Wait) (xs : List Line) (x : Line) → lawful ws xs ≡ true → lawful_line ws x ≡ true → lawful ws (xs ++ x ∷ []) ≡ true
 lawful_push ws [] x h k = and_from (lawful_line ws x) true k refl
-lawful_push ws (y ∷ ys) x h k = and_from (lawful_line ws y) _ ((and_parts (lawful_line ws y) _ h).0) (lawful_push ws ys x ((and_parts (lawful_line ws y) _ h).1) k)
+lawful_push ws (y ∷ ys) x h k = and_from (lawful_line ws y) _ (and_parts (lawful_line ws y) _ h).0 (lawful_push ws ys x (and_parts (lawful_line ws y) _ h).1 k)
 
 -- the causes of a rule whose kind is named or not
 abbrev causes_by : Option Kind → List Literal → List Literal → List Cause
@@ -100,7 +99,7 @@ marked_lawful ws l r kind up shape short =
     (and_from (waited (admitted ws w) w) (sized y) (waited_admitted ws w) (and_from (leb (length (literals y.left)) (most_left kind)) (shaped kind (length (literals y.left)) (length (literals y.right))) few formed))
 
 kind_lawful : (ws : List Wait) (l r : List Literal) (x : Line) (o : Option Kind) → first_of (causes_by o l r) ≡ None → Some x ≡ option_map (marked l r) o → lawful_line (admitted ws (wait_of x)) x ≡ true
-kind_lawful ws l r x None h e = let z : ◌≡◌ {A = ℕ} 0 1 = cc in absurd (omega arith)
+kind_lawful ws l r x None h e = absurd (cc)
 kind_lawful ws l r x (Some kind) h e =
     let same : x ≡ marked l r kind = cc in
     let none = all_none (causes_by (Some kind) l r) h in
@@ -135,35 +134,23 @@ pub rule_indexed : (k n i : ℕ) (l r : List Literal) (x : Line) → Some x ≡ 
 rule_indexed k n i l r x is = by_kind (kind_of n i k) (named_under k n i) is
   where
     by_kind : (o : Option Kind) → UnderIf k o → Some x ≡ option_map (marked l r) o → kind_under k x.kind ≡ true
-    by_kind None under e = let z : ◌≡◌ {A = ℕ} 0 1 = cc in absurd (omega arith)
+    by_kind None under e = absurd (cc)
     by_kind (Some kind) under e = let same : x ≡ marked l r kind = cc in ap (λ (y : Line). kind_under k y.kind) same ∙ under
 
 pub indexed_push : (k : ℕ) (xs : List Line) (x : Line) → indexed k xs ≡ true → kind_under k x.kind ≡ true → indexed k (xs ++ x ∷ []) ≡ true
 indexed_push k [] x h e = and_from (kind_under k x.kind) true e refl
-indexed_push k (y ∷ ys) x h e = and_from (kind_under k y.kind) _ ((and_parts (kind_under k y.kind) _ h).0) (indexed_push k ys x ((and_parts (kind_under k y.kind) _ h).1) e)
+indexed_push k (y ∷ ys) x h e = and_from (kind_under k y.kind) _ (and_parts (kind_under k y.kind) _ h).0 (indexed_push k ys x (and_parts (kind_under k y.kind) _ h).1 e)
 
 pub indexed_at : (k : ℕ) (xs : List Line) (n : ℕ) → n < length xs → indexed k xs ≡ true → kind_under k (get_or xs n blank).kind ≡ true
 indexed_at k [] n h e = absurd (omega arith)
 indexed_at k (x ∷ xs) zero h e = (and_parts (kind_under k x.kind) (indexed k xs) e).0
-indexed_at k (x ∷ xs) (suc n) h e = indexed_at k xs n (omega arith) ((and_parts (kind_under k x.kind) (indexed k xs) e).1)
+indexed_at k (x ∷ xs) (suc n) h e = indexed_at k xs n (omega arith) (and_parts (kind_under k x.kind) (indexed k xs) e).1
 
 -- the line of a rule that nothing stands against
 pub rule_lawful : (ws : List Wait) (k n i : ℕ) (l r : List Literal) (x : Line) → first_of (rule_causes k n i l r) ≡ None → Some x ≡ rule_line k n i l r → lawful_line (admitted ws (wait_of x)) x ≡ true
 rule_lawful ws k n i l r x none is = kind_lawful ws l r x (kind_of n i k) none is
 
--- ---- lines by number
-
-pub at_none : (xs : List Line) (n : ℕ) → length xs ≤ n → line_at xs n ≡ None
-at_none [] n h = refl
-at_none (x ∷ xs) zero h = absurd (omega arith)
-at_none (x ∷ xs) (suc n) h = at_none xs n (omega arith)
-
-pub at_some : (xs : List Line) (n : ℕ) → n < length xs → line_at xs n ≡ Some (get_or xs n blank)
-at_some [] n h = absurd (omega arith)
-at_some (x ∷ xs) zero h = refl
-at_some (x ∷ xs) (suc n) h = at_some xs n (omega arith)
-
 pub lawful_at : (ws : List Wait) (xs : List Line) (n : ℕ) → n < length xs → lawful ws xs ≡ true → lawful_line ws (get_or xs n blank) ≡ true
 lawful_at ws [] n h k = absurd (omega arith)
 lawful_at ws (x ∷ xs) zero h k = (and_parts (lawful_line ws x) (lawful ws xs) k).0
-lawful_at ws (x ∷ xs) (suc n) h k = lawful_at ws xs n (omega arith) ((and_parts (lawful_line ws x) (lawful ws xs) k).1)
+lawful_at ws (x ∷ xs) (suc n) h k = lawful_at ws xs n (omega arith) (and_parts (lawful_line ws x) (lawful ws xs) k).1

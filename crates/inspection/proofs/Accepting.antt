@@ -2,7 +2,8 @@
 use Rattle.std.proofs.Common.{◌≡◌, ℕ, ◌≤◌, true, false, cond, not, leb, List, [], ◌∷◌, ◌++◌, length, is_some, Some, None, Ok, Err, Option, Result, sym, refl, ap, ◌∙◌, true≢false, arith, eqb-true, le-leb, leb-true}
 use Rattle.std.specs.Option.{option_map}
 use Rattle.std.specs.List.{AllByRecursion as All}
-use Rattle.std.proofs.lemmas.Bool.{and_from, and_parts, not-false, or_from, or_parts}
+use Rattle.std.proofs.lemmas.Bool.{and_from, and_parts, or_from, or_parts, not-false}
+use Rattle.std.proofs.lemmas.Option.{none-some}
 use Rattle.clauses.specs.declared.kinds.Kind.{Kind}
 use Rattle.clauses.specs.declared.kinds.Kind.TheVariants.{Start, Global, Step, Sometime}
 use Rattle.clauses.specs.declared.lines.Line.{Line}
@@ -45,12 +46,12 @@ module _ (m : Model) (c : Call) (o : Option Line) (Applies : Clause → Type 0) 
 
   no_cause : (n : ℕ) (f : Option ℕ) → line n ≡ answer_by f (gives m c) → f ≡ None
   no_cause n None e = refl
-  no_cause n (Some k) e = let z : ◌≡◌ {A = ℕ} 0 1 = cc in absurd (omega arith)
+  no_cause n (Some k) e = absurd (cc)
 
   some_cause : (n : ℕ) → refused n ≡ answer m c → first_of (causes m c) ≡ None → ⊥
   some_cause n told none =
       let e : refused n ≡ line (length m.lines) = told ∙ (λ i. answer_by (none i) (given i)) in
-      let z : ◌≡◌ {A = ℕ} 0 1 = cc in omega arith
+      cc
 
   pub by_calculus : (r : Result ℕ Refusal) (later : Model) → told_line r ≡ answer m c → later ≡ after m c → ByCalculus r m later Applies
   by_calculus (Ok n) later told is =
@@ -122,8 +123,8 @@ module _ (m : Model) (ok : lawful m.waits m.lines ≡ true) (a b : ℕ) (l : Lit
         (le-leb (length (resolved_right x y l)) 16 (fits_length (resolved_right x y l) d.right right-up (ap set_of (sym (literals_of (resolved_right x y l))) ∙ ap (λ c. c.right) is) right))
 
   sound_by : (o p : Option Line) → line_at m.lines a ≡ o → line_at m.lines b ≡ p → first_of (resolve_causes m.loops o p l ++ (18, full m) ∷ []) ≡ None → (z : Line) × (resolved_of o p l ≡ Some z) × Resolving m a b l (clause_of z)
-  sound_by None p e f h = let z : ◌≡◌ {A = ℕ} 0 1 = cc in absurd (omega arith)
-  sound_by (Some x) None e f h = let z : ◌≡◌ {A = ℕ} 0 1 = cc in absurd (omega arith)
+  sound_by None p e f h = absurd (cc)
+  sound_by (Some x) None e f h = absurd (cc)
   sound_by (Some x) (Some y) e f h = sound-there x y (lawful_there m.waits m.lines a x e ok) (lawful_there m.waits m.lines b y f ok) e f h
 
   complete_by : (d : Clause) → Resolving m a b l d → (first_of (causes m (resolve a b l)) ≡ None) × (z : Line) × (resolved_of (line_at m.lines a) (line_at m.lines b) l ≡ Some z) × (clause_of z ≡ d)
@@ -146,7 +147,7 @@ module _ (m : Model) (ok : lawful m.waits m.lines ≡ true) (a b : ℕ) (l : Lit
 
 module _ (m : Model) (n : ℕ) where
   rewriting_sound : (o : Option Line) → line_at m.lines n ≡ o → first_of (rewrite_causes o ++ (18, full m) ∷ []) ≡ None → (z : Line) × (option_map rewritten_line o ≡ Some z) × Rewriting m n (clause_of z)
-  rewriting_sound None e h = let z : ◌≡◌ {A = ℕ} 0 1 = cc in absurd (omega arith)
+  rewriting_sound None e h = absurd (cc)
   rewriting_sound (Some x) e h =
       let none = all_none (rewrite_causes (Some x) ++ (18, full m) ∷ []) h in
       (rewritten_line x, refl, record { one = x; there = e; rule = rewritten_follows x (not-false _ none.0); free = nowhere x.belongs none.1.0; room = none.1.1.0 })
@@ -165,12 +166,12 @@ module _ (m : Model) (n : ℕ) where
 
 -- a line that waits is a sometime line with one goal
 waiting_for : (k : Kind) (xs : List Literal) (m : ℕ) (w : Wait) → shaped k m (length xs) ≡ true → wait_for k xs ≡ Some w → (k ≡ Sometime w.scope) × (xs ≡ w.goal ∷ [])
-waiting_for Start xs m w h e = let z : ◌≡◌ {A = ℕ} 0 1 = cc in absurd (omega arith)
-waiting_for Global xs m w h e = let z : ◌≡◌ {A = ℕ} 0 1 = cc in absurd (omega arith)
-waiting_for (Step s) xs m w h e = let z : ◌≡◌ {A = ℕ} 0 1 = cc in absurd (omega arith)
-waiting_for (Sometime s) [] m w h e = let z : ◌≡◌ {A = ℕ} 0 1 = cc in absurd (omega arith)
-waiting_for (Sometime s) (g ∷ []) m w h e = let same : record { scope = s; goal = g } ≡ w = cc in (ap (λ v. Sometime v.scope) same, ap (λ v. v.goal ∷ []) same)
+waiting_for Start xs m w h e = absurd (none-some _ e)
+waiting_for Global xs m w h e = absurd (none-some _ e)
+waiting_for (Step s) xs m w h e = absurd (none-some _ e)
+waiting_for (Sometime s) [] m w h e = absurd (none-some _ e)
 waiting_for (Sometime s) (g ∷ f ∷ gs) m w h e = let z : length (g ∷ f ∷ gs) ≡ 1 = eqb-true (length (g ∷ f ∷ gs)) 1 h in absurd (omega arith)
+waiting_for (Sometime s) (g ∷ []) m w h e = let same : record { scope = s; goal = g } ≡ w = cc in (ap (λ v. Sometime v.scope) same, ap (λ v. v.goal ∷ []) same)
 
 -- what a line waits for, and by which literal
 record Waits (ws : List Wait) (x : Line) : Type 0 where
@@ -195,7 +196,7 @@ waits_by_lem ws x w e = ap (λ o. and_then o (λ u. option_map wait_literal (pla
 -- any call that makes a clause of a line's wait; f is the line made
 module _ (m : Model) (n : ℕ) (Rule : Clause → Literal → Literal → Clause → Type 0) (f : Line → Wait → Literal → Line) (makes : Option Line → Option Line) (is : (x : Line) → makes (Some x) ≡ and_then (wait_of x) (λ u. option_map (λ k. f x u (wait_literal k)) (place_of m.waits u))) where
   waiting_sound : lawful m.waits m.lines ≡ true → ((x : Line) (w : Wait) (v : Literal) → x.kind ≡ Sometime w.scope → literals x.right ≡ w.goal ∷ [] → Rule (clause_of x) w.goal v (clause_of (f x w v))) → (o : Option Line) → line_at m.lines n ≡ o → first_of (wait_causes o ++ (18, full m) ∷ []) ≡ None → (z : Line) × (makes o ≡ Some z) × Waiting Rule m n (clause_of z)
-  waiting_sound ok follows None e h = let z : ◌≡◌ {A = ℕ} 0 1 = cc in absurd (omega arith)
+  waiting_sound ok follows None e h = absurd (cc)
   waiting_sound ok follows (Some x) e h =
       let none = all_none (wait_causes (Some x) ++ (18, full m) ∷ []) h in
       let p = waits_there m.waits x (lawful_there m.waits m.lines n x e ok) (not-false _ none.0) in

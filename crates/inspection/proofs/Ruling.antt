@@ -1,6 +1,6 @@
 -- What a judged plan answers, by what stands against it. Assumes nothing.
-use Rattle.std.proofs.Common.{◌≡◌, ℕ, true, ltb, List, get_or, IfOk, Some, None, Ok, Err, Result, sym, ap, ◌∙◌, subst, arith, MatchResult}
-use Rattle.std.proofs.lemmas.Bool.{eqb-true, ltb-true, not-false, or_parts}
+use Rattle.std.proofs.Common.{◌≡◌, ℕ, true, ltb, List, get_or, IfOk, Some, None, Ok, Err, Result, sym, ap, ◌∙◌, arith, MatchResult}
+use Rattle.std.proofs.lemmas.Bool.{eqb-true, ltb-true, or_parts, not-false}
 use Rattle.clauses.specs.declared.kinds.Kind.{Kind}
 use Rattle.clauses.specs.declared.kinds.Kind.TheVariants.{Start, Global, Step, Sometime}
 use Rattle.clauses.specs.declared.kinds.Scope.{Scope}
@@ -43,18 +43,18 @@ same_count k bytes sys h =
     eqb-true sys.indices k (not-false _ (or_parts (ltb 256 sys.states) _ clear.1.0).1)
 
 -- the rules that are judged are the lines made
-module _ (m : Model) (sys : System) (bytes : ℕ) (ok : indexed m.indices m.lines ≡ true) (xs : List Line) (is : xs ≡ m.lines) where
+module _ (m : Model) (sys : System) (bytes : ℕ) (ok : indexed m.indices m.lines ≡ true) where
   -- what judging the rules promises
   abbrev Judges : Result Judgement PlanRefusal → Type 0
-  Judges r = MatchResult r (λ j. (first_of (judge_causes m.indices bytes sys) ≡ None) × (AllFit sys xs → j ≡ judgement sys xs)) (λ e. first_of (judge_causes m.indices bytes sys) ≡ Some (plan_number e))
+  Judges r = MatchResult r (λ j. (first_of (judge_causes m.indices bytes sys) ≡ None) × (AllFit sys m.lines → j ≡ judgement sys m.lines)) (λ e. first_of (judge_causes m.indices bytes sys) ≡ Some (plan_number e))
 
-  fit : first_of (judge_causes m.indices bytes sys) ≡ None → AllFit sys xs
-  fit none = subst (AllFit sys) (sym is) (all_fit sys m.indices (same_count m.indices bytes sys none) m.lines ok)
+  fit : first_of (judge_causes m.indices bytes sys) ≡ None → AllFit sys m.lines
+  fit none = all_fit sys m.indices (same_count m.indices bytes sys none) m.lines ok
 
   pub judge_answer : (r : Result Judgement PlanRefusal) → Judges r → told_judgement r ≡ answer m (judge sys bytes)
-  judge_answer (Ok j) h = ap judged_as (h.1 (fit h.0) ∙ ap (judgement sys) is) ∙ sym (accepted_by m (judge sys bytes) h.0).0
+  judge_answer (Ok j) h = ap judged_as (h.1 (fit h.0)) ∙ sym (accepted_by m (judge sys bytes) h.0).0
   judge_answer (Err e) h = sym (refused_by m (judge sys bytes) (plan_number e) h).0
 
-  pub judge_exactly : (r : Result Judgement PlanRefusal) → Judges r → IfOk r (λ j. AllFit sys xs → Exactly sys xs j) → IfOk r (Exactly sys m.lines)
-  judge_exactly (Ok j) h e = subst (λ ys. Exactly sys ys j) is (e (fit h.0))
+  pub judge_exactly : (r : Result Judgement PlanRefusal) → Judges r → IfOk r (λ j. AllFit sys m.lines → Exactly sys m.lines j) → IfOk r (Exactly sys m.lines)
+  judge_exactly (Ok j) h e = e (fit h.0)
   judge_exactly (Err x) h e = tt

@@ -10,7 +10,7 @@ use crate::waits::Waits;
 use clauses::{Line, Refusal};
 
 // An index count and a table's length that an inspection may have.
-// Apart from `Inspection`, since no function answers a Result of a struct that holds the lent table.
+// Checked apart from `Inspection`, since a function cannot answer a Result of a struct that holds a lent table.
 #[derive(Clone, Copy)]
 pub struct Opening {
     indices: u8,
@@ -39,12 +39,11 @@ impl Opening {
         ensures lent { result.lines.ghost_name ≡ lines.entry.ghost_name }
     {
         let room = self.room.min(lines.len());
-        let waits = Waits::new();
         Inspection {
             indices: self.indices,
             room,
             made: 0,
-            waits,
+            waits: Waits::new(),
             lines,
         }
     }
