@@ -1,3 +1,4 @@
 pub mod Marks
 pub mod Judging
 pub mod Texts
+pub mod OnlyMarks

@@ -22,10 +22,11 @@ pub(crate) struct Marked<'p, 'm, P: Plan> {
 }
 
 impl<'p, 'm, P: Plan> Marked<'p, 'm, P> {
+    ghost use Rattle.judging.specs.OnlyMarks.{OnlyMarks};
+
     // Marks the states at which the right holds, and no other.
     fn mark_right(&mut self, right: &[Literal])
-        ensures plan { self.new.plan ≡ self.old.plan }
-        ensures lent { self.new.marks.ghost_name ≡ self.old.marks.ghost_name }
+        ensures only { OnlyMarks self.old self.new }
         ensures shown { Shows self.new.marks.now (right_at (P.Plan.system self.old.plan.now) right.now) }
     {
         let plan = self.plan;
@@ -36,7 +37,7 @@ impl<'p, 'm, P: Plan> Marked<'p, 'm, P> {
 
     // Takes every mark away.
     pub(crate) fn clear(&mut self)
-        ensures lent { self.new.marks.ghost_name ≡ self.old.marks.ghost_name }
+        ensures only { OnlyMarks self.old self.new }
         ensures cleared { self.new.marks.now ≡ replicate (length self.old.marks.now) 0 }
     {
         let marks = &mut *self.marks;
@@ -71,8 +72,7 @@ impl<'p, 'm, P: Plan> Marked<'p, 'm, P> {
     // Marks, from the lowest state up or from the highest down, each from which every move of the scope leads to a marked one; says whether
     // there was one.
     fn grow_once(&mut self, scope: Scope, up: bool) -> bool
-        ensures plan { self.new.plan ≡ self.old.plan }
-        ensures lent { self.new.marks.ghost_name ≡ self.old.marks.ghost_name }
+        ensures only { OnlyMarks self.old self.new }
         ensures grows { Grows self.old.marks.now self.new.marks.now }
         ensures within { let sys = P.Plan.system self.old.plan.now in Speaks sys scope → (p : ℕ → Bool) → Within self.old.marks.now (sooner sys scope p) → Within self.new.marks.now (sooner sys scope p) }
         ensures more { result ≡ true → unmarked self.new.marks.now < unmarked self.old.marks.now }
@@ -94,8 +94,7 @@ impl<'p, 'm, P: Plan> Marked<'p, 'm, P> {
     // Marks each state from which one sooner or later comes to a marked one, by the moves of the scope. Every other round goes up, so that
     // moves in either direction are followed to their end in one.
     fn grow(&mut self, scope: Scope)
-        ensures plan { self.new.plan ≡ self.old.plan }
-        ensures lent { self.new.marks.ghost_name ≡ self.old.marks.ghost_name }
+        ensures only { OnlyMarks self.old self.new }
         ensures shown { let sys = P.Plan.system self.old.plan.now in Speaks sys scope → (p : ℕ → Bool) → Shows self.old.marks.now p → Shows self.new.marks.now (sooner sys scope p) }
     {
         let mut up = false;
@@ -106,8 +105,7 @@ impl<'p, 'm, P: Plan> Marked<'p, 'm, P> {
 
     // Marks what a rule asks for.
     pub(crate) fn mark_asked(&mut self, rule: &Line)
-        ensures plan { self.new.plan ≡ self.old.plan }
-        ensures lent { self.new.marks.ghost_name ≡ self.old.marks.ghost_name }
+        ensures only { OnlyMarks self.old self.new }
         ensures shown { let sys = P.Plan.system self.old.plan.now in Fits sys rule.now.kind → Shows self.new.marks.now (asked sys rule.now.kind (literals rule.now.right)) }
     {
         self.mark_right(rule.right.literals());

@@ -19,6 +19,8 @@ use plans::{Plan, PlanRefusal};
 const MOST_STATES: usize = 256;
 
 impl<'p, 'm, P: Plan> Marked<'p, 'm, P> {
+    ghost use Rattle.judging.specs.OnlyMarks.{OnlyMarks};
+
     // Whether the rule is broken at a state, with what it asks for marked.
     fn broken_at(&self, rule: &Line, state: usize) -> bool
         requires { state < length self.now.marks.now }
@@ -36,8 +38,7 @@ impl<'p, 'm, P: Plan> Marked<'p, 'm, P> {
 
     // The lowest rule that is broken and the lowest state at which it is; the marks are left as they come.
     fn judged(&mut self, rules: &[Line]) -> Judgement
-        ensures plan { self.new.plan ≡ self.old.plan }
-        ensures lent { self.new.marks.ghost_name ≡ self.old.marks.ghost_name }
+        ensures only { OnlyMarks self.old self.new }
         ensures told { let sys = P.Plan.system self.old.plan.now in AllFit sys rules.now → result ≡ judgement sys rules.now }
     {
         // Two labelled loops, left at the first break: a required form.

@@ -13,7 +13,7 @@ told : (g : given.Over) (c : After-broken_at g) → AllFit (g.P.Plan.system c.ar
 told g c fits =
     let fit = fits c.rules.number c.rules-test.true in
     let shown = rw c.rules.invariant.plan at c.mark_asked.ensures.shown in
-    let broken = rw (c.mark_asked.ensures.plan ∙ c.rules.invariant.plan) at c.broken_at.ensures in
+    let broken = rw (c.mark_asked.ensures.only.plan ∙ c.rules.invariant.plan) at c.broken_at.ensures in
     broken fit (shown fit)
 
 pub loop-state-preserved : goal.loop-state-preserved
@@ -25,12 +25,12 @@ loop-state-preserved g c = record {
 
 pub rules-preserved : goal.rules-preserved
 rules-preserved g c = record {
-  plan = c.mark_asked.ensures.plan ∙ c.rules.invariant.plan;
-  lent = c.mark_asked.ensures.lent ∙ c.rules.invariant.lent;
+  plan = c.mark_asked.ensures.only.plan ∙ c.rules.invariant.plan;
+  lent = c.mark_asked.ensures.only.lent ∙ c.rules.invariant.lent;
   kept = c.loop-state.invariant.kept;
   rest = λ fits.
       let sys = g.P.Plan.system c.args.self.now.plan.now in
-      let width = rw (c.mark_asked.ensures.plan ∙ c.rules.invariant.plan) at c.mark_asked.new.self.states in
+      let width = rw (c.mark_asked.ensures.only.plan ∙ c.rules.invariant.plan) at c.mark_asked.new.self.states in
       let all : sys.states ≡ c.loop-state.state = omega arith in
       sym (judgement-kept sys c.args.rules.now c.rules.number c.rules-test.true c.if-not-rule.false
       (ap (λ n. lowest_below n (breaks sys (get_or c.args.rules.now c.rules.number blank))) all ∙ c.loop-state.invariant.none fits))
@@ -40,7 +40,7 @@ rules-preserved g c = record {
 pub returns-then-broken_at-clause-told : goal.returns-then-broken_at-clause-told
 returns-then-broken_at-clause-told g c = λ fits.
     let sys = g.P.Plan.system c.args.self.now.plan.now in
-    let width = rw (c.mark_asked.ensures.plan ∙ c.rules.invariant.plan) at c.mark_asked.new.self.states in
+    let width = rw (c.mark_asked.ensures.only.plan ∙ c.rules.invariant.plan) at c.mark_asked.new.self.states in
     sym (sym (c.rules.invariant.rest fits)
     ∙ judgement-broken sys c.args.rules.now c.rules.number c.rules-test.true c.if-not-rule.false c.loop-state.state
     (lowest_found sys.states (breaks sys (get_or c.args.rules.now c.rules.number blank)) c.loop-state.state (omega arith) (c.loop-state.invariant.none fits)
