@@ -45,7 +45,7 @@ impl<'p, 'm, P: Plan> Marked<'p, 'm, P> {
     }
 
     // Whether a state is marked.
-    fn shows(&self, state: u16) -> bool
+    pub(crate) fn shows(&self, state: u16) -> bool
         requires { state < length self.now.marks.now }
         ensures { result ≡ marked self.now.marks.now state }
     {

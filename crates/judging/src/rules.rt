@@ -22,17 +22,17 @@ impl<'p, 'm, P: Plan> Marked<'p, 'm, P> {
     ghost use Rattle.judging.specs.OnlyMarks.{OnlyMarks};
 
     // Whether the rule is broken at a state, with what it asks for marked.
-    fn broken_at(&self, rule: &Line, state: usize) -> bool
+    fn broken_at(&self, rule: &Line, state: u16) -> bool
         requires { state < length self.now.marks.now }
         ensures { let sys = P.Plan.system self.now.plan.now in Fits sys rule.now.kind → Shows self.now.marks.now (asked sys rule.now.kind (literals rule.now.right)) → result ≡ breaks sys rule.now state }
     {
         match rule.kind {
-            Kind::Start => state == 0 && self.marks[state] == 0,
-            Kind::Global => self.marks[state] == 0,
-            Kind::Step(scope) => left_holds(self.plan, rule.left.literals(), state as u16)
-                && !self.next_marked(scope, state as u16),
-            Kind::Sometime(_) => left_holds(self.plan, rule.left.literals(), state as u16)
-                && self.marks[state] == 0,
+            Kind::Start => state == 0 && !self.shows(state),
+            Kind::Global => !self.shows(state),
+            Kind::Step(scope) => left_holds(self.plan, rule.left.literals(), state)
+                && !self.next_marked(scope, state),
+            Kind::Sometime(_) => left_holds(self.plan, rule.left.literals(), state)
+                && !self.shows(state),
         }
     }
 
@@ -48,11 +48,11 @@ impl<'p, 'm, P: Plan> Marked<'p, 'm, P> {
                 continue;
             }
             self.mark_asked(rule);
-            for state in 0..self.marks.len() {
+            for state in 0..self.plan.states() {
                 if self.broken_at(rule, state) {
                     judgement = Judgement::Broken {
                         rule: number,
-                        state,
+                        state: usize::from(state),
                     };
                     break 'rules;
                 }

@@ -1,6 +1,7 @@
 use Rattle.std.proofs.Common.{◌≡◌, get_or, sym, ap, ◌∙◌, arith}
 use Rattle.clauses.specs.Lines.{blank}
 use Rattle.truth.specs.Deciding.{breaks, lowest_below}
+use Rattle.judging.specs.declared.judgements.Judgement.TheVariants.{Broken}
 use Rattle.judging.specs.Judging.{AllFit}
 use Rattle.judging.proofs.Lowest.{lowest_found, lowest_more}
 use Rattle.judging.proofs.Verdicts.{judgement-broken, judgement-kept}
@@ -41,7 +42,7 @@ pub returns-then-broken_at-clause-told : goal.returns-then-broken_at-clause-told
 returns-then-broken_at-clause-told g c = λ fits.
     let sys = g.P.Plan.system c.args.self.now.plan.now in
     let width = rw (c.mark_asked.ensures.only.plan ∙ c.rules.invariant.plan) at c.mark_asked.new.self.states in
-    sym (sym (c.rules.invariant.rest fits)
+    ap (Broken c.rules.number) c.from.ensures ∙ sym (sym (c.rules.invariant.rest fits)
     ∙ judgement-broken sys c.args.rules.now c.rules.number c.rules-test.true c.if-not-rule.false c.loop-state.state
     (lowest_found sys.states (breaks sys (get_or c.args.rules.now c.rules.number blank)) c.loop-state.state (omega arith) (c.loop-state.invariant.none fits)
     (sym (told g (goal.at.returns-then-broken_at-clause-told g c).After-broken_at fits) ∙ c.if-broken_at.true)))
