@@ -1,3 +1,4 @@
+pub mod Continuing
 pub mod Going
 pub mod Planning
 pub mod Reading

@@ -9,33 +9,56 @@ use Rattle.calls.specs.Calls.{Answer, Call, after, answer, judged_as, verdict}
 use Rattle.inspection.specs.Told.{told_line}
 use Rattle.calls.specs.Calls as call
 use Rattle.inspection.specs.declared.opening.Opening.{Opening}
-use Rattle.calls.specs.Models.{Model, fresh}
+use Rattle.inspection.specs.declared.state.Inspection.{Inspection}
+use Rattle.calls.specs.Models.{Model, fresh, overlay}
+use Rattle.inspection.specs.Held.{model_of}
 use Rattle.run.specs.declared.faults.Fault.{Fault}
 use Rattle.run.specs.declared.outcomes.Outcome.{Outcome}
 use Rattle.run.specs.declared.outcomes.Outcome.TheVariants as came
+use Rattle.run.specs.declared.runs.Run.{Run}
 use Rattle.run.specs.declared.faults.Refused.{Refused}
 use Rattle.run.specs.Faults.{refused_number}
 use Rattle.run.specs.Files.{items_from}
 use Rattle.run.specs.Runs.{Book, after_work, taken, stopped, book_of, rules_from}
 use Rattle.run.specs.Text.{line_text, no_text, verdict_text, work_text}
 
--- the rules that a reader has before it, at most k of them, after n others
-abbrev pub ahead : ℕ → Reader → Model → ℕ → Book
-ahead k reader m n = rules_from m n (items_from k source.Book reader.bytes.now reader.place)
+-- from one moment of an inspection to another: it has no line less, and the lines that it has by then lie over the
+-- table that it had, which the same reference lends
+pub record LinesGrow (s s' : Inspection) : Type 0 where
+  pub more : length (model_of s).lines ≤ length (model_of s').lines
+  pub table : s'.lines.now ≡ overlay (model_of s').lines s.lines.now
+  pub lent : s'.lines.ghost_name ≡ s.lines.ghost_name
 
--- from one reader and model to another: a rule was taken in, there was none, or it is refused
-abbrev pub OneRule : Result (Option ℕ) Refused → Reader → Model → Reader → Model → Type 0
-OneRule (Ok (Some line)) r m r' m' = (k n : ℕ) → ahead (suc k) r m n ≡ ahead k r' m' (n + 1)
-OneRule (Ok None) r m r' m' = (k n : ℕ) → ahead (suc k) r m n ≡ taken m' n
-OneRule (Err e) r m r' m' = (k n : ℕ) → ahead (suc k) r m n ≡ stopped m'.lines (refused_number e) r.place
+-- from one moment of a run to another: it is of the same file, and its lines grow
+pub record Continues (run run' : Run) : Type 0 where
+  pub bytes : run'.reader.bytes.now ≡ run.reader.bytes.now
+  pub file : run'.reader.source ≡ run.reader.source
+  pub lines : LinesGrow run.inspection.now run'.inspection.now
+  pub borrowed : run'.inspection.ghost_name ≡ run.inspection.ghost_name
+
+-- ---- the book
+
+-- the rules that a run has before it, at most k of them, after n others
+abbrev pub ahead : ℕ → Run → ℕ → Book
+ahead k run n = rules_from (model_of run.inspection.now) n (items_from k source.Book run.reader.bytes.now run.reader.place)
+
+-- the book that a reader has before it, in the place of a begin that left this model
+abbrev pub rest_of : Reader → Model → Book
+rest_of reader m = rules_from m 0 (items_from (length reader.bytes.now) source.Book reader.bytes.now reader.place)
+
+-- from one moment to another: a rule was taken in, there was none, or it is refused
+abbrev pub OneRule : Result (Option ℕ) Refused → Run → Run → Type 0
+OneRule (Ok (Some line)) run run' = (k n : ℕ) → ahead (suc k) run n ≡ ahead k run' (n + 1)
+OneRule (Ok None) run run' = (k n : ℕ) → ahead (suc k) run n ≡ taken (model_of run'.inspection.now) n
+OneRule (Err e) run run' = (k n : ℕ) → ahead (suc k) run n ≡ stopped (model_of run'.inspection.now).lines (refused_number e) run.reader.place
 
 -- all the rules after a begin
 abbrev pub told_book : Result ℕ Fault → Model → Book
 told_book (Ok rules) m = taken m rules
 told_book (Err fault) m = stopped m.lines (refused_number fault.refused) fault.offset
 
-abbrev pub AllRules : Result ℕ Fault → Reader → Model → Model → Type 0
-AllRules x r m m' = (k : ℕ) → length r.bytes.now < r.place + k → ahead k r m 0 ≡ told_book x m'
+abbrev pub AllRules : Result ℕ Fault → Run → Run → Type 0
+AllRules x run run' = (k : ℕ) → length run.reader.bytes.now < run.reader.place + k → ahead k run 0 ≡ told_book x (model_of run'.inspection.now)
 
 -- a rule was taken in, and the place went from p on to q, of so many bytes
 abbrev pub Goes : Result (Option ℕ) Refused → ℕ → ℕ → ℕ → Type 0
@@ -54,24 +77,24 @@ abbrev pub IsWork : Source → Type 0
 IsWork source.Book = ⊥
 IsWork (source.Work k) = Unit {0}
 
--- the lines of the report that a reader has before it, at most j of them, the first numbered i
-abbrev pub lines_ahead : ℕ → Reader → Model → ℕ → List ℕ
-lines_ahead j reader m i = work_text m i (items_from j reader.source reader.bytes.now reader.place)
+-- the lines of the report that a run has before it, at most j of them, the first numbered i
+abbrev pub lines_ahead : ℕ → Run → ℕ → List ℕ
+lines_ahead j run i = work_text (model_of run.inspection.now) i (items_from j run.reader.source run.reader.bytes.now run.reader.place)
 
 -- the lines of the table in the end
-abbrev pub left_ahead : ℕ → Reader → Model → List Line
-left_ahead j reader m = (after_work m (items_from j reader.source reader.bytes.now reader.place)).lines
+abbrev pub left_ahead : ℕ → Run → List Line
+left_ahead j run = (after_work (model_of run.inspection.now) (items_from j run.reader.source run.reader.bytes.now run.reader.place)).lines
 
 -- what a field came to, with its number and values
 abbrev pub outcome : Outcome → Answer
 outcome (came.Line n) = call.line n
 outcome (came.Judged j) = judged_as j
 
--- from one reader and model to another: a line was made, there was no field, or it is refused
-abbrev pub OneLine : Result (Option ℕ) Refused → Reader → Model → Reader → Model → Type 0
-OneLine (Ok (Some n)) r m r' m' = ((j i : ℕ) → lines_ahead (suc j) r m i ≡ line_text i n ++ lines_ahead j r' m' (i + 1)) × ((j : ℕ) → left_ahead (suc j) r m ≡ left_ahead j r' m')
-OneLine (Ok None) r m r' m' = ((j i : ℕ) → lines_ahead (suc j) r m i ≡ verdict_text (answer m' verdict)) × ((j : ℕ) → left_ahead (suc j) r m ≡ m'.lines)
-OneLine (Err e) r m r' m' = ((j i : ℕ) → lines_ahead (suc j) r m i ≡ no_text i (refused_number e) r.place ++ lines_ahead j r' m' (i + 1)) × ((j : ℕ) → left_ahead (suc j) r m ≡ left_ahead j r' m')
+-- from one moment to another: a line was made, there was no field, or it is refused
+abbrev pub OneLine : Result (Option ℕ) Refused → Run → Run → Type 0
+OneLine (Ok (Some n)) run run' = ((j i : ℕ) → lines_ahead (suc j) run i ≡ line_text i n ++ lines_ahead j run' (i + 1)) × ((j : ℕ) → left_ahead (suc j) run ≡ left_ahead j run')
+OneLine (Ok None) run run' = ((j i : ℕ) → lines_ahead (suc j) run i ≡ verdict_text (answer (model_of run'.inspection.now) verdict)) × ((j : ℕ) → left_ahead (suc j) run ≡ (model_of run'.inspection.now).lines)
+OneLine (Err e) run run' = ((j i : ℕ) → lines_ahead (suc j) run i ≡ no_text i (refused_number e) run.reader.place ++ lines_ahead j run' (i + 1)) × ((j : ℕ) → left_ahead (suc j) run ≡ left_ahead j run')
 
 -- a field moves the place from p on to q, of so many bytes
 abbrev pub Onward : Result (Option ℕ) Refused → ℕ → ℕ → ℕ → Type 0
@@ -85,6 +108,6 @@ Did None r m m' = ⊥
 Did (Some c) r m m' = (told_line r ≡ answer m c) × (m' ≡ after m c)
 
 -- the line of field i was written, or there is no field more and nothing was written
-abbrev pub Written : Bool → ℕ → List ℕ → List ℕ → Reader → Model → Reader → Model → Type 0
-Written true i text text' r m r' m' = ((r.place < r'.place) × (r'.place ≤ length r.bytes.now)) × ((j : ℕ) → text' ++ lines_ahead j r' m' (i + 1) ≡ text ++ lines_ahead (suc j) r m i) × ((j : ℕ) → left_ahead (suc j) r m ≡ left_ahead j r' m')
-Written false i text text' r m r' m' = (text' ≡ text) × ((j : ℕ) → lines_ahead (suc j) r m i ≡ verdict_text (answer m' verdict)) × ((j : ℕ) → left_ahead (suc j) r m ≡ m'.lines)
+abbrev pub Written : Bool → ℕ → List ℕ → List ℕ → Run → Run → Type 0
+Written true i text text' run run' = ((run.reader.place < run'.reader.place) × (run'.reader.place ≤ length run.reader.bytes.now)) × ((j : ℕ) → text' ++ lines_ahead j run' (i + 1) ≡ text ++ lines_ahead (suc j) run i) × ((j : ℕ) → left_ahead (suc j) run ≡ left_ahead j run')
+Written false i text text' run run' = (text' ≡ text) × ((j : ℕ) → lines_ahead (suc j) run i ≡ verdict_text (answer (model_of run'.inspection.now) verdict)) × ((j : ℕ) → left_ahead (suc j) run ≡ (model_of run'.inspection.now).lines)

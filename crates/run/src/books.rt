@@ -7,10 +7,11 @@ ghost use Rattle.calls.specs.Models.{overlay};
 ghost use Rattle.inspection.specs.Held.{model_of};
 ghost use Rattle.run.specs.declared.faults.File.TheVariants as file;
 ghost use Rattle.run.specs.Runs.{rule_call};
-ghost use Rattle.run.specs.Steps.{AllRules, Begun, Goes, OneRule};
+ghost use Rattle.run.specs.Steps.{AllRules, Begun, Continues, Goes, OneRule};
 
 use crate::faults::{Fault, File, Refused};
 use crate::parts::elements;
+use crate::runs::Run;
 use arrayvec::ArrayVec;
 use clauses::{Line, Literal, Refusal};
 use fields::{Field, Reader};
@@ -35,58 +36,6 @@ fn take_rule(
     inspection.rule(kind, index, &left, &right)
 }
 
-// Takes in the next rule of the book, and answers its line; none at the end.
-fn next_rule(reader: &mut Reader, inspection: &mut Inspection) -> Result<Option<usize>, Refused>
-    requires book { reader.old.source ≡ source.Book }
-    requires begun { 0 < reader.old.place }
-    ensures same { (reader.new.bytes.now ≡ reader.old.bytes.now) × (reader.new.source ≡ reader.old.source) }
-    ensures moves { Goes result (length reader.old.bytes.now) reader.old.place reader.new.place }
-    ensures grows { length (model_of inspection.old).lines ≤ length (model_of inspection.new).lines }
-    ensures table { inspection.new.lines.now ≡ overlay (model_of inspection.new).lines inspection.old.lines.now }
-    ensures lent { inspection.new.lines.ghost_name ≡ inspection.old.lines.ghost_name }
-    ensures step { OneRule result reader.old (model_of inspection.old) reader.new (model_of inspection.new) }
-{
-    let Some(field) = reader.next_field()? else {
-        return Ok(None);
-    };
-    let Field::Rule {
-        kind,
-        index,
-        left,
-        right,
-    } = field
-    else {
-        unreachable()
-    };
-    let line = take_rule(inspection, kind, index, left, right)?;
-    Ok(Some(line))
-}
-
-// Takes in the rules after the begin of a book, and answers how many there are.
-pub(crate) fn take_rules(reader: &mut Reader, inspection: &mut Inspection) -> Result<usize, Fault>
-    requires book { reader.old.source ≡ source.Book }
-    requires begun { 0 < reader.old.place }
-    requires within { reader.old.place ≤ length reader.old.bytes.now }
-    ensures file { IfErr result (λ fault. fault.file ≡ file.Book) }
-    ensures rules { AllRules result reader.old (model_of inspection.old) (model_of inspection.new) }
-    ensures table { inspection.new.lines.now ≡ overlay (model_of inspection.new).lines inspection.old.lines.now }
-    ensures lent { inspection.new.lines.ghost_name ≡ inspection.old.lines.ghost_name }
-{
-    let mut count = 0;
-    loop {
-        let offset = reader.place();
-        let taken = next_rule(reader, inspection).map_err(|refused| Fault {
-            refused,
-            file: File::Book,
-            offset,
-        })?;
-        let Some(_) = taken else {
-            return Ok(count);
-        };
-        count += 1;
-    }
-}
-
 // Reads the begin of a book, and checks what it opens.
 pub(crate) fn begin(reader: &mut Reader, lines: &[Line]) -> Result<Opening, Refused>
     requires book { reader.old.source ≡ source.Book }
@@ -101,4 +50,55 @@ pub(crate) fn begin(reader: &mut Reader, lines: &[Line]) -> Result<Opening, Refu
         unreachable()
     };
     Ok(Opening::check(indices, lines)?)
+}
+
+impl<'r, 'f, 'l> Run<'r, 'f, 'l> {
+    // Takes in the next rule of the book, and answers its line; none at the end.
+    fn next_rule(&mut self) -> Result<Option<usize>, Refused>
+        requires book { self.old.reader.source ≡ source.Book }
+        requires begun { 0 < self.old.reader.place }
+        ensures on { Continues self.old self.new }
+        ensures moves { Goes result (length self.old.reader.bytes.now) self.old.reader.place self.new.reader.place }
+        ensures step { OneRule result self.old self.new }
+    {
+        let Some(field) = self.reader.next_field()? else {
+            return Ok(None);
+        };
+        let Field::Rule {
+            kind,
+            index,
+            left,
+            right,
+        } = field
+        else {
+            unreachable()
+        };
+        let line = take_rule(self.inspection, kind, index, left, right)?;
+        Ok(Some(line))
+    }
+
+    // Takes in the rules after the begin of a book, and answers how many there are.
+    pub(crate) fn take_rules(&mut self) -> Result<usize, Fault>
+        requires book { self.old.reader.source ≡ source.Book }
+        requires begun { 0 < self.old.reader.place }
+        requires within { self.old.reader.place ≤ length self.old.reader.bytes.now }
+        ensures file { IfErr result (λ fault. fault.file ≡ file.Book) }
+        ensures rules { AllRules result self.old self.new }
+        ensures on { Continues self.old self.new }
+    {
+        let mut count = 0;
+        loop {
+            let offset = self.place();
+            let taken = self.next_rule().map_err(|refused| Fault {
+                refused,
+                file: File::Book,
+                offset,
+            })?;
+            let Some(_) = taken else {
+                return Ok(count);
+            };
+            // Counted by hand: how many rules there are is known only at their end.
+            count += 1;
+        }
+    }
 }

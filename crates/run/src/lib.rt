@@ -7,6 +7,7 @@ pub mod outcomes;
 mod parts;
 mod plan_fields;
 pub mod reports;
+mod runs;
 mod works;
 
 pub use faults::{Fault, File, Layer, Refused};

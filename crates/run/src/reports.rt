@@ -1,17 +1,20 @@
 // The report of a book and a work.
-ghost use Rattle.std.specs.Prelude.{◌≡◌, ◌++◌, length, IfOk, string_bytes, OnOk};
+ghost use Rattle.std.specs.Prelude.{◌<◌, ◌≤◌, ◌≡◌, ◌++◌, length, IfOk, string_bytes, OnOk};
 ghost use Rattle.std.specs.Option.{option_map};
 ghost use Rattle.fields.specs.declared.shapes.Source.TheVariants as source;
 ghost use Rattle.calls.specs.Models.{overlay};
 ghost use Rattle.run.specs.Files.{items_of};
 ghost use Rattle.run.specs.Runs.{book_of, made_by};
+ghost use Rattle.inspection.specs.Held.{model_of};
+ghost use Rattle.run.specs.Steps.{LinesGrow, rest_of};
 ghost use Rattle.run.specs.Text.{readable, report, run_text, table_of};
 
-use crate::books::{begin, take_rules};
+use crate::books::begin;
 use crate::faults::{Fault, File};
-use crate::works::write_work;
+use crate::runs::Run;
 use clauses::Line;
 use fields::{Reader, Source};
+use inspection::Inspection;
 use std::alloc::{AllocError, Global};
 use std::fmt;
 
@@ -26,6 +29,31 @@ fn readable(file: Option<&[u8]>) -> Option<&[u8]>
         return None;
     }
     Some(bytes)
+}
+
+// Takes in the rules of a book that is begun, goes through the work, and writes what came of it.
+fn write_opened<'f>(
+    text: &mut String,
+    reader: Reader<'f>,
+    inspection: &mut Inspection,
+    work: &'f [u8],
+) -> Result<(), AllocError>
+    requires book { reader.source ≡ source.Book }
+    requires begun { 0 < reader.place }
+    requires within { reader.place ≤ length reader.bytes.now }
+    ensures lines { LinesGrow inspection.old inspection.new }
+    ensures text { OnOk result (string_bytes text.new ≡ string_bytes text.old ++ run_text work.now (rest_of reader.entry (model_of inspection.old))) }
+    ensures left { OnOk result ((model_of inspection.new).lines ≡ made_by work.now (rest_of reader.entry (model_of inspection.old))) }
+{
+    let mut run = Run { reader, inspection };
+    match run.take_rules() {
+        Ok(rules) => {
+            let indices = run.inspection.indices();
+            writeln!(text, "book {indices} {rules}")?;
+            run.write_work(text, work)
+        }
+        Err(fault) => writeln!(text, "book {fault}"),
+    }
 }
 
 // Takes in the book, goes through the work, and writes what came of it.
@@ -51,14 +79,7 @@ fn write_run(
         }
     };
     let mut inspection = opening.open(lines);
-    match take_rules(&mut reader, &mut inspection) {
-        Ok(rules) => {
-            let indices = inspection.indices();
-            writeln!(text, "book {indices} {rules}")?;
-            write_work(text, work, &mut inspection)
-        }
-        Err(fault) => writeln!(text, "book {fault}"),
-    }
+    write_opened(text, reader, &mut inspection, work)
 }
 
 // The report of two files, none where a file is missing, with a table for the lines. Fails only for want of memory.

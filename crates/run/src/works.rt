@@ -6,11 +6,12 @@ ghost use Rattle.calls.specs.Models.{overlay};
 ghost use Rattle.inspection.specs.Held.{model_of};
 ghost use Rattle.run.specs.Files.{items_of};
 ghost use Rattle.run.specs.Runs.{after_work, work_call};
-ghost use Rattle.run.specs.Steps.{Did, IsWork, OneLine, Onward, Written};
+ghost use Rattle.run.specs.Steps.{Continues, Did, IsWork, LinesGrow, OneLine, Onward, Written};
 ghost use Rattle.run.specs.Text.{work_text};
 
 use crate::faults::{Fault, File, Refused};
 use crate::outcomes::Outcome;
+use crate::runs::Run;
 use clauses::{Literal, Refusal};
 use fields::{Field, Reader, Source};
 use inspection::Inspection;
@@ -39,81 +40,61 @@ fn perform(inspection: &mut Inspection, field: Field) -> Result<usize, Refusal>
     }
 }
 
-// Makes the call of the next field of the work, and answers the line that it made; none at the end.
-fn next_line(reader: &mut Reader, inspection: &mut Inspection) -> Result<Option<usize>, Refused>
-    requires { IsWork reader.old.source }
-    ensures same { (reader.new.bytes.now ≡ reader.old.bytes.now) × (reader.new.source ≡ reader.old.source) }
-    ensures moves { Onward result (length reader.old.bytes.now) reader.old.place reader.new.place }
-    ensures grows { length (model_of inspection.old).lines ≤ length (model_of inspection.new).lines }
-    ensures table { inspection.new.lines.now ≡ overlay (model_of inspection.new).lines inspection.old.lines.now }
-    ensures lent { inspection.new.lines.ghost_name ≡ inspection.old.lines.ghost_name }
-    ensures step { OneLine result reader.old (model_of inspection.old) reader.new (model_of inspection.new) }
-{
-    let Some(field) = reader.next_field()? else {
-        return Ok(None);
-    };
-    let line = perform(inspection, field)?;
-    Ok(Some(line))
-}
-
-// Writes a line for the next field of the work; false where there is none.
-fn write_next(
-    text: &mut String,
-    number: usize,
-    reader: &mut Reader,
-    inspection: &mut Inspection,
-) -> Result<bool, AllocError>
-    requires { IsWork reader.old.source }
-    ensures same { (reader.new.bytes.now ≡ reader.old.bytes.now) × (reader.new.source ≡ reader.old.source) }
-    ensures grows { length (model_of inspection.old).lines ≤ length (model_of inspection.new).lines }
-    ensures table { inspection.new.lines.now ≡ overlay (model_of inspection.new).lines inspection.old.lines.now }
-    ensures lent { inspection.new.lines.ghost_name ≡ inspection.old.lines.ghost_name }
-    ensures step { IfOk result (λ more. Written more number (string_bytes text.old) (string_bytes text.new) reader.old (model_of inspection.old) reader.new (model_of inspection.new)) }
-{
-    let offset = reader.place();
-    match next_line(reader, inspection) {
-        Ok(None) => return Ok(false),
-        Ok(Some(line)) => {
-            let outcome = Outcome::Line(line);
-            writeln!(text, "{number} {outcome}")?
-        }
-        Err(refused) => {
-            let fault = Fault {
-                refused,
-                file: File::Work,
-                offset,
-            };
-            writeln!(text, "{number} {fault}")?
-        }
+impl<'r, 'f, 'l> Run<'r, 'f, 'l> {
+    // Makes the call of the next field of the work, and answers the line that it made; none at the end.
+    fn next_line(&mut self) -> Result<Option<usize>, Refused>
+        requires { IsWork self.old.reader.source }
+        ensures on { Continues self.old self.new }
+        ensures moves { Onward result (length self.old.reader.bytes.now) self.old.reader.place self.new.reader.place }
+        ensures step { OneLine result self.old self.new }
+    {
+        let Some(field) = self.reader.next_field()? else {
+            return Ok(None);
+        };
+        let line = perform(self.inspection, field)?;
+        Ok(Some(line))
     }
-    Ok(true)
-}
 
-// Writes a line for each field of the work, and the verdict.
-pub(crate) fn write_work(
-    text: &mut String,
-    work: &[u8],
-    inspection: &mut Inspection,
-) -> Result<(), AllocError>
-    ensures text { OnOk result (string_bytes text.new ≡ string_bytes text.old ++ work_text (model_of inspection.old) 0 (items_of (source.Work (model_of inspection.old).indices) work.now)) }
-    ensures left { OnOk result ((model_of inspection.new).lines ≡ (after_work (model_of inspection.old) (items_of (source.Work (model_of inspection.old).indices) work.now)).lines) }
-    ensures grows { length (model_of inspection.old).lines ≤ length (model_of inspection.new).lines }
-    ensures table { inspection.new.lines.now ≡ overlay (model_of inspection.new).lines inspection.old.lines.now }
-    ensures lent { inspection.new.lines.ghost_name ≡ inspection.old.lines.ghost_name }
-{
-    let mut reader = Reader::new(
-        Source::Work {
-            indices: inspection.indices(),
-        },
-        work,
-    );
-    let mut number = 0;
-    loop {
-        let more = write_next(text, number, &mut reader, inspection)?;
-        if !more {
-            let verdict = inspection.verdict();
-            return writeln!(text, "{verdict}");
+    // Writes a line for the next field of the work; false where there is none.
+    fn write_next(&mut self, text: &mut String, number: usize) -> Result<bool, AllocError>
+        requires { IsWork self.old.reader.source }
+        ensures on { Continues self.old self.new }
+        ensures step { IfOk result (λ more. Written more number (string_bytes text.old) (string_bytes text.new) self.old self.new) }
+    {
+        let offset = self.place();
+        match self.next_line() {
+            Ok(None) => return Ok(false),
+            Ok(Some(line)) => {
+                let outcome = Outcome::Line(line);
+                writeln!(text, "{number} {outcome}")?
+            }
+            Err(refused) => {
+                let fault = Fault {
+                    refused,
+                    file: File::Work,
+                    offset,
+                };
+                writeln!(text, "{number} {fault}")?
+            }
         }
-        number += 1;
+        Ok(true)
+    }
+
+    // Goes through a work: writes a line for each of its fields, and the verdict.
+    pub(crate) fn write_work(&mut self, text: &mut String, work: &'f [u8]) -> Result<(), AllocError>
+        ensures text { OnOk result (string_bytes text.new ≡ string_bytes text.old ++ work_text (model_of self.old.inspection.now) 0 (items_of (source.Work (model_of self.old.inspection.now).indices) work.now)) }
+        ensures left { OnOk result ((model_of self.new.inspection.now).lines ≡ (after_work (model_of self.old.inspection.now) (items_of (source.Work (model_of self.old.inspection.now).indices) work.now)).lines) }
+        ensures lines { LinesGrow self.old.inspection.now self.new.inspection.now }
+        ensures borrowed { self.new.inspection.ghost_name ≡ self.old.inspection.ghost_name }
+    {
+        let indices = self.inspection.indices();
+        self.reader = Reader::new(Source::Work { indices }, work);
+        let mut number = 0;
+        while self.write_next(text, number)? {
+            // Counted by hand: how many fields there are is known only at their end.
+            number += 1;
+        }
+        let verdict = self.inspection.verdict();
+        writeln!(text, "{verdict}")
     }
 }
