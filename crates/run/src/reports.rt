@@ -24,11 +24,7 @@ const LONGEST: usize = 65536;
 fn readable(file: Option<&[u8]>) -> Option<&[u8]>
     ensures { option_map (λ x. x.now) result ≡ readable (option_map (λ x. x.now) file.entry) }
 {
-    let bytes = file?;
-    if bytes.len() > LONGEST {
-        return None;
-    }
-    Some(bytes)
+    file.filter(|bytes| bytes.len() <= LONGEST)
 }
 
 // Takes in the rules of a book that is begun, goes through the work, and writes what came of it.

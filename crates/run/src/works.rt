@@ -26,13 +26,13 @@ fn perform(inspection: &mut Inspection, field: Field) -> Result<usize, Refusal>
 {
     match field {
         Field::Resolve { a, b, literal } => inspection.resolve(
-            a as usize,
-            b as usize,
+            usize::from(a),
+            usize::from(b),
             Literal(literal),
         ),
-        Field::Rewrite { line } => inspection.rewrite(line as usize),
-        Field::Enter { line } => inspection.enter(line as usize),
-        Field::Stay { line } => inspection.stay(line as usize),
+        Field::Rewrite { line } => inspection.rewrite(usize::from(line)),
+        Field::Enter { line } => inspection.enter(usize::from(line)),
+        Field::Stay { line } => inspection.stay(usize::from(line)),
         Field::TablePlan { .. } => unreachable(),
         Field::Ring { .. } => unreachable(),
         Field::Begin { .. } => unreachable(),
