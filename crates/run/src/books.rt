@@ -1,10 +1,7 @@
 // How a book is taken in.
 ghost use Rattle.std.specs.Prelude.{◌≡◌, ◌<◌, ◌≤◌, length, IfErr};
 ghost use Rattle.fields.specs.declared.shapes.Source.TheVariants as source;
-ghost use Rattle.calls.specs.Calls.{after, answer};
-ghost use Rattle.inspection.specs.Told.{told_line};
-ghost use Rattle.calls.specs.Models.{overlay};
-ghost use Rattle.inspection.specs.Held.{model_of};
+ghost use Rattle.inspection.specs.Told.{Does, told_line};
 ghost use Rattle.run.specs.declared.faults.File.TheVariants as file;
 ghost use Rattle.run.specs.Runs.{rule_call};
 ghost use Rattle.run.specs.Steps.{AllRules, Begun, Continues, Goes, OneRule};
@@ -26,10 +23,7 @@ fn take_rule(
     right: &[u8],
 ) -> Result<usize, Refusal>
     requires short { (length left.now ≤ 510) × (length right.now ≤ 510) }
-    ensures answer { told_line result ≡ answer (model_of inspection.old) (rule_call kind index left.now right.now) }
-    ensures after { model_of inspection.new ≡ after (model_of inspection.old) (rule_call kind index left.now right.now) }
-    ensures table { inspection.new.lines.now ≡ overlay (model_of inspection.new).lines inspection.old.lines.now }
-    ensures lent { inspection.new.lines.ghost_name ≡ inspection.old.lines.ghost_name }
+    ensures { Does (told_line result) (rule_call kind index left.now right.now) inspection.old inspection.new }
 {
     let left: ArrayVec<Literal, 255> = elements(left);
     let right: ArrayVec<Literal, 255> = elements(right);
