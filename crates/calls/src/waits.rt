@@ -5,7 +5,7 @@ ghost use Rattle.calls.specs.Waits.{wait_of};
 use clauses::{Kind, Line, Literal, Scope};
 
 // The moves that it speaks of, and its goal.
-#[derive(Clone, Copy, PartialEq, Eq, Default)]
+#[derive(Debug, Clone, Copy, Default, PartialEq, Eq)]
 pub struct Wait {
     pub scope: Scope,
     pub goal: Literal,
@@ -16,12 +16,9 @@ impl Wait {
     pub fn of(line: &Line) -> Option<Wait>
         ensures { result ≡ wait_of line.now }
     {
-        let Kind::Sometime(scope) = line.kind else {
-            return None;
-        };
-        match line.right.literals() {
-            [goal, ..] => Some(Wait { scope, goal: *goal }),
-            [] => None,
+        match (line.kind, line.right.literals()) {
+            (Kind::Sometime(scope), [goal, ..]) => Some(Wait { scope, goal: *goal }),
+            _ => None,
         }
     }
 }

@@ -3,6 +3,7 @@ ghost use Rattle.std.specs.Prelude.{◌≡◌};
 ghost use Rattle.clauses.specs.Kinds.{joint_kind, joint_scope, kind_of};
 
 // Every move, or the move of one index.
+// Not an Option, since every move is a scope of its own, with a name in each match.
 #[derive(Debug, Clone, Copy, Default, PartialEq, Eq)]
 pub enum Scope {
     #[default]

@@ -19,6 +19,7 @@ fn in_range(items: &[Literal]) -> bool
     items.iter().all(|x| x.0 <= HIGHEST)
 }
 
+// Apart from `rule_line`, where the proof with the order of literals did not close.
 #[tactic(auto, using(crate::specs::Literals::literal_order))]
 fn ascends(items: &[Literal]) -> bool
     ensures { result ≡ ascending literal_rank items.now }

@@ -1,6 +1,7 @@
 // The files, and the fields that they hold.
 
 // Which file is read; a work's layouts may depend on the count of indices.
+// Not an Option of a count, since a book is a kind of file, and no count that is missing.
 #[derive(Debug, Clone, Copy, PartialEq, Eq)]
 pub enum Source {
     Book,

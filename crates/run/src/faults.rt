@@ -59,6 +59,7 @@ impl fmt::Display for Fault {
     }
 }
 
+// A `From` for each layer by hand, since no derive states which case `?` makes.
 impl From<ReaderFault> for Refused {
     ghost from_gives = { λ fault r. r ≡ refused.Reader fault };
 
