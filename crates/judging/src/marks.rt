@@ -7,7 +7,7 @@ ghost use Rattle.truth.specs.Truth.{right_at};
 ghost use Rattle.truth.specs.Deciding.{every_next, sooner};
 ghost use Rattle.judging.specs.Marks.{Closed, Grows, Shows, Within, asked, marked, state_at, unmarked};
 
-use crate::truths::right_holds;
+use crate::truths::At;
 use clauses::{Kind, Line, Literal, Scope};
 use plans::Plan;
 
@@ -31,7 +31,11 @@ impl<'p, 'm, P: Plan> Marked<'p, 'm, P> {
     {
         let plan = self.plan;
         for (state, mark) in self.marks.iter_mut().enumerate() {
-            *mark = u8::from(right_holds(plan, right, state as u16));
+            let at = At {
+                plan,
+                state: state as u16,
+            };
+            *mark = u8::from(at.any_holds(right));
         }
     }
 
@@ -46,10 +50,11 @@ impl<'p, 'm, P: Plan> Marked<'p, 'm, P> {
 
     // Whether a state is marked.
     pub(crate) fn shows(&self, state: u16) -> bool
-        requires { state < length self.now.marks.now }
         ensures { result ≡ marked self.now.marks.now state }
     {
-        self.marks[usize::from(state)] != 0
+        self.marks
+            .get(usize::from(state))
+            .is_some_and(|mark| *mark != 0)
     }
 
     // Whether every move of the scope leads from a state to a marked one.

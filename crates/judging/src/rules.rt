@@ -11,7 +11,7 @@ ghost use Rattle.judging.specs.Marks.{Shows, asked};
 
 use crate::judgements::Judgement;
 use crate::marks::Marked;
-use crate::truths::left_holds;
+use crate::truths::At;
 use clauses::{Kind, Line};
 use plans::{Plan, PlanRefusal};
 
@@ -26,13 +26,16 @@ impl<'p, 'm, P: Plan> Marked<'p, 'm, P> {
         requires { state < length self.now.marks.now }
         ensures { let sys = P.Plan.system self.now.plan.now in Fits sys rule.now.kind → Shows self.now.marks.now (asked sys rule.now.kind (literals rule.now.right)) → result ≡ breaks sys rule.now state }
     {
+        let at = At {
+            plan: self.plan,
+            state,
+        };
         match rule.kind {
             Kind::Start => state == 0 && !self.shows(state),
             Kind::Global => !self.shows(state),
-            Kind::Step(scope) => left_holds(self.plan, rule.left.literals(), state)
+            Kind::Step(scope) => at.all_hold(rule.left.literals())
                 && !self.next_marked(scope, state),
-            Kind::Sometime(_) => left_holds(self.plan, rule.left.literals(), state)
-                && !self.shows(state),
+            Kind::Sometime(_) => at.all_hold(rule.left.literals()) && !self.shows(state),
         }
     }
 
