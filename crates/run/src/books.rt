@@ -37,10 +37,7 @@ pub(crate) fn begin(reader: &mut Reader, lines: &[Line]) -> Result<Opening, Refu
     ensures same { (reader.new.bytes.now ≡ reader.old.bytes.now) × (reader.new.source ≡ reader.old.source) }
     ensures begun { Begun result (length lines.now) reader.old reader.new }
 {
-    let Some(field) = reader.next_field()? else {
-        unreachable()
-    };
-    let Field::Begin { indices } = field else {
+    let Some(Field::Begin { indices }) = reader.next_field()? else {
         unreachable()
     };
     Ok(Opening::check(indices, lines)?)
