@@ -1,5 +1,5 @@
 -- The number of each refusal, and the first of a list of causes that holds. Assumes nothing.
-use Rattle.std.specs.Prelude.{ℕ, Bool, cond, List, [], ◌∷◌, Some, None, Option}
+use Rattle.std.specs.Prelude.{◌≡◌, ℕ, Bool, cond, List, [], ◌∷◌, Some, None, Option, Result, MatchResult}
 use Rattle.clauses.specs.declared.refusals.Refusal.{Refusal}
 use Rattle.clauses.specs.declared.refusals.Refusal.TheVariants.{IndexCount, TableSize, KindOrIndex, LiteralRange, NotAscending, WrongShape, SideTooLong, NotThere, Misfit, LiteralMissing, LoopEnded, NewSideTooLong, NothingLeft}
 
@@ -26,3 +26,7 @@ Cause = ℕ × Bool
 abbrev pub first_of : List Cause → Option ℕ
 first_of [] = None
 first_of (c ∷ cs) = cond c.1 (Some c.0) (first_of cs)
+
+-- refused by the first of these causes that holds, by its number; or none holds, and P is true of the value
+abbrev pub FirstOr : {T E : Type 0} → (E → ℕ) → List Cause → (T → Type 0) → Result T E → Type 0
+FirstOr number cs P r = MatchResult r (λ x. (first_of cs ≡ None) × P x) (λ e. first_of cs ≡ Some (number e))

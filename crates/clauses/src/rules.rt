@@ -1,8 +1,8 @@
 // The line that a rule makes, and what may stand against it.
-ghost use Rattle.std.specs.Prelude.{◌≡◌, Some, None, MatchResult};
+ghost use Rattle.std.specs.Prelude.{◌≡◌, Some};
 ghost use Rattle.ordered.specs.Lists.{ascending};
 ghost use Rattle.clauses.specs.Literals.{literal_rank};
-ghost use Rattle.clauses.specs.Refusals.{number_of, first_of};
+ghost use Rattle.clauses.specs.Refusals.{number_of, FirstOr};
 ghost use Rattle.clauses.specs.Rules.{in_range, shaped, most_left, rule_causes, rule_line};
 
 use crate::kinds::Kind;
@@ -56,7 +56,7 @@ pub fn rule_line(
     left: &[Literal],
     right: &[Literal],
 ) -> Result<Line, Refusal>
-    ensures { MatchResult result (λ line. (first_of (rule_causes indices number index left.now right.now) ≡ None) × (Some line ≡ rule_line indices number index left.now right.now)) (λ e. first_of (rule_causes indices number index left.now right.now) ≡ Some (number_of e)) }
+    ensures { FirstOr number_of (rule_causes indices number index left.now right.now) (λ line. Some line ≡ rule_line indices number index left.now right.now) result }
 {
     let kind = Kind::named(number, index, indices).ok_or(Refusal::KindOrIndex)?;
     if !in_range(left) || !in_range(right) {
