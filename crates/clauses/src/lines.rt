@@ -13,7 +13,7 @@ pub const PLACES: usize = 16;
 #[derive(Debug, Clone, Copy, PartialEq, Eq)]
 pub struct Side {
     pub(crate) count: u8,
-    pub(crate) places: [Literal; 16],
+    pub(crate) places: [Literal; PLACES],
 }
 
 // A line of the table: a rule where it is marked, and of the loop that it belongs to, if any.
@@ -29,7 +29,7 @@ pub struct Line {
 impl Side {
     pub(crate) const EMPTY: Side = Side {
         count: 0,
-        places: [Literal(0); 16],
+        places: [Literal(0); PLACES],
     };
 
     // The side of these literals, where they fit.
@@ -40,9 +40,10 @@ impl Side {
         if items.len() > PLACES {
             return None;
         }
-        let mut places = [Literal(0); 16];
+        let mut places = [Literal(0); PLACES];
         places[..items.len()].copy_from_slice(items);
         Some(Side {
+            // Narrowed without loss, as the proof shows.
             count: items.len() as u8,
             places,
         })

@@ -48,7 +48,7 @@ fn most_left(kind: Kind) -> usize
     }
 }
 
-// The line of a rule, or the first cause against it.
+// The line of a rule, or the first cause against it. The kind is a number, since one that names no kind is refused here.
 pub fn rule_line(
     indices: u8,
     number: u8,

@@ -3,7 +3,7 @@ ghost use Rattle.std.specs.Prelude.{◌≡◌, ◌<◌, ◌≤◌, true, List, [
 ghost use Rattle.clauses.specs.Lines.{literals, side_for, side_of};
 ghost use Rattle.clauses.specs.Sides.{ascends, has, join, opposites, without};
 
-use crate::lines::Side;
+use crate::lines::{PLACES, Side};
 use crate::literals::Literal;
 
 impl Side {
@@ -30,9 +30,10 @@ pub(crate) fn contains(side: &[Literal], literal: Literal) -> bool
 pub(crate) fn joined(a: &[Literal], b: &[Literal]) -> Option<Side>
     ensures { ascends a.now ≡ true → ascends b.now ≡ true → result ≡ side_for (join a.now b.now) }
 {
-    let mut places = [Literal(0); 16];
+    let mut places = [Literal(0); PLACES];
     let count = ordered::join(a, b, &mut places)?;
     Some(Side {
+        // Narrowed without loss, as the proof shows.
         count: count as u8,
         places,
     })

@@ -30,6 +30,7 @@ fn entered_right(left: &Side, goal: Literal, wait: Literal) -> Option<Side>
     joined(contrary.literals(), either.literals())
 }
 
+// That sides ascend is asked here, and is no invariant of `Side`, since a side is made of any literals in any order.
 impl Line {
     // Whether the literal is on the right of this line, and its opposite on the right of the other.
     pub fn clashes(&self, other: &Line, literal: Literal) -> bool
@@ -88,15 +89,15 @@ impl Line {
 }
 
 // A wait goes on until its goal holds.
-pub fn stayed(scope: Scope, goal: Literal, wait: Literal) -> Option<Line>
-    ensures { result ≡ Some (stayed_line scope goal wait) }
+pub fn stayed(scope: Scope, goal: Literal, wait: Literal) -> Line
+    ensures { result ≡ stayed_line scope goal wait }
 {
-    let left = Side::of(&[wait])?;
-    let right = joined(&[goal], &[wait])?;
-    Some(Line {
+    let left = Side::of(&[wait]).unwrap();
+    let right = joined(&[goal], &[wait]).unwrap();
+    Line {
         kind: Kind::Step(scope),
         left,
         right,
         ..Line::BLANK
-    })
+    }
 }

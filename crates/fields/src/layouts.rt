@@ -64,9 +64,7 @@ fn last_pairs(bytes: &[u8]) -> Option<&[u8]>
 fn begin_field(value: &[u8]) -> Option<Field<'_>>
     ensures { option_map shown_of result ≡ begin_of value.now }
 {
-    let &[indices] = value else {
-        return None;
-    };
+    let &[indices] = value.as_array::<1>()?;
     Some(Field::Begin { indices })
 }
 
@@ -146,7 +144,7 @@ fn book_field(offset: usize, tag: u8, value: &[u8]) -> Result<Field<'_>, Flaw>
     Ok(field)
 }
 
-// The field of a work by its tag; it may stand at any place.
+// The field of a work by its tag, a byte like a book's; it may stand at any place.
 fn work_field(tag: u8, value: &[u8]) -> Result<Field<'_>, Flaw>
     ensures { told_flaw result ≡ work_layout tag value.now }
 {

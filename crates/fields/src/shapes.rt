@@ -14,6 +14,7 @@ pub enum Field<'a> {
     Begin {
         indices: u8,
     },
+    // The kind is a byte of the file: the reader knows no kinds.
     Rule {
         kind: u8,
         index: u8,

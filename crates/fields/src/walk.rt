@@ -58,6 +58,7 @@ impl<'a> Reader<'a> {
                 _ => Ok(None),
             };
         }
+        // The place moves too where there is none, so this is no `ok_or`.
         let Some((tag, value)) = layouts::split_field(&self.bytes[offset..]) else {
             self.place = self.bytes.len();
             return Err(Flaw::PastEnd.at(offset));

@@ -61,7 +61,7 @@ module _ (s : Inspection) (c : Call) (cs : List Cause) (is : causes (model_of s)
       let causeless = ap first_of is ∙ first_last cs (18, full m) h.0 in
       record {
         answer = stored.answer ∙ sym (λ j. answer_by (causeless j) (given j));
-        after = stored.after ∙ ap (λ w. after_by (first_of ((18, full m) ∷ [])) m (with_made m w)) h.1 ∙ sym (λ j. after_by (causeless j) m (left j));
+        after = stored.after ∙ ap (λ w. after_by (first_of ((18, full m) ∷ [])) m (with_made m w)) h.1.0 ∙ sym (λ j. after_by (causeless j) m (left j));
         table = stored.table;
         lent = stored.lent;
       }

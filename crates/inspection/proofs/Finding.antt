@@ -1,6 +1,5 @@
 -- What is found at a line's number. Assumes nothing.
-use Rattle.std.proofs.Common.{◌≡◌, ℕ, zero, suc, ◌<◌, true, ltb, List, [], ◌∷◌, length, get_or, is_some, IfOk, IfSome, Some, None, Option, sym, refl, ◌∙◌, subst, MatchResult}
-use Rattle.std.specs.List.{slice_get}
+use Rattle.std.proofs.Common.{◌≡◌, ℕ, ◌<◌, true, ltb, List, length, get_or, is_some, IfOk, IfSome, Some, None, Option, sym, refl, subst, MatchResult}
 use Rattle.std.specs.Option.{ok_or}
 use Rattle.std.proofs.lemmas.Bool.{ltb-true, ltb-false}
 use Rattle.std.proofs.lemmas.Option.{get_or_from_slice_get, slice_get_past, slice_get_read, slice_get_within}
@@ -15,14 +14,9 @@ use Rattle.calls.specs.Models.{Model}
 use Rattle.calls.proofs.Keeping.{indexed_at, lawful_at}
 use Rattle.inspection.specs.Held.{MayHave}
 
-line_get : (xs : List Line) (n : ℕ) → line_at xs n ≡ slice_get xs n
-line_get [] n = refl
-line_get (x ∷ xs) zero = refl
-line_get (x ∷ xs) (suc n) = line_get xs n
-
 -- a line that there is is the one that is read
 at_read : (xs : List Line) (n : ℕ) (x : Line) → line_at xs n ≡ Some x → (n < length xs) × (get_or xs n blank ≡ x)
-at_read xs n x e = let got = sym (line_get xs n) ∙ e in (slice_get_within xs n x got, get_or_from_slice_get xs n x blank got)
+at_read xs n x e = (slice_get_within xs n x e, get_or_from_slice_get xs n x blank e)
 
 -- and it is lawful
 pub lawful_there : (ws : List Wait) (xs : List Line) (n : ℕ) (x : Line) → line_at xs n ≡ Some x → lawful ws xs ≡ true → lawful_line ws x ≡ true
@@ -40,8 +34,8 @@ module _ (m : Model) (ok : lawful m.waits m.lines ≡ true) (under : indexed m.i
   -- what a look into the table finds, by references to lines
   module _ {B : Type 0} (now : B → Line) where
     pub found : (o : Option B) → is_some o ≡ ltb n (length m.lines) → IfSome o (λ b. now b ≡ get_or m.lines n (now b)) → MatchResult (ok_or o NotThere) (λ b. line_at m.lines n ≡ Some (now b)) (λ e. (e ≡ NotThere) × (line_at m.lines n ≡ None))
-    found None some is = (refl, line_get m.lines n ∙ slice_get_past m.lines n (ltb-false n (length m.lines) (sym some)))
-    found (Some b) some is = line_get m.lines n ∙ slice_get_read m.lines (length m.lines) n (now b) refl (ltb-true n (length m.lines) (sym some)) is
+    found None some is = (refl, slice_get_past m.lines n (ltb-false n (length m.lines) (sym some)))
+    found (Some b) some is = slice_get_read m.lines (length m.lines) n (now b) refl (ltb-true n (length m.lines) (sym some)) is
 
     pub found_allowed : (r : Option B) → MatchResult (ok_or r NotThere) (λ b. line_at m.lines n ≡ Some (now b)) (λ e. (e ≡ NotThere) × (line_at m.lines n ≡ None)) → IfOk (ok_or r NotThere) (λ b. MayHave m (now b))
     found_allowed None h = tt

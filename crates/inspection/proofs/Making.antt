@@ -119,7 +119,7 @@ pub resolvent_makes : (m : Model) (x y : Line) (l : Literal) (r : Result Line Re
 resolvent_makes m x y l (Ok z) hx hy h =
     let none = all_none (resolve_causes [] (Some x) (Some y) l) h.0 in
     let fits = not-false (resolved_fits x y l) none.1.1.1.0 in
-    (h.0, h.1, by_kind m x y z l hx hy fits (joint_kind x.kind y.kind) refl h.1)
+    (h.0, (h.1, by_kind m x y z l hx hy fits (joint_kind x.kind y.kind) refl h.1))
 resolvent_makes m x y l (Err e) hx hy h = h
 
 -- ---- rewriting, entering, staying
@@ -169,7 +169,7 @@ module _ (m : Model) (n : ℕ) (w : Waiter) (h : WaiterAt m n w) where
   makes : (f : Wait → Literal → Line) (y : Line) → Some y ≡ Some (f w.wait w.literal) → MayHave m (f w.wait w.literal) → Makes (Ok y) m (wait_causes (Some w.line.now)) (and_then (wait_of w.line.now) (λ u. option_map (λ k. f u (wait_literal k)) (place_of m.waits u)))
   makes f y e allowed =
       let same : y ≡ f w.wait w.literal = cc in
-      (sometime_passes w.line.now w.wait h.waits, e ∙ wait_clause m.waits w.line.now w.wait w.literal f h.waits h.given, subst (MayHave m) (sym same) allowed)
+      (sometime_passes w.line.now w.wait h.waits, (e ∙ wait_clause m.waits w.line.now w.wait w.literal f h.waits h.given, subst (MayHave m) (sym same) allowed))
 
   pub entered_makes : (y : Line) → Some y ≡ Some (entered_line w.line.now w.wait.goal w.literal) → Makes (Ok y) m (wait_causes (line_at m.lines n)) (entered_of m.waits (line_at m.lines n))
   entered_makes y e = rw h.there (makes (λ u v. entered_line w.line.now u.goal v) y e (record { lawful = entered_lawful m.waits w.line.now w.wait.goal w.literal; indexed = refl }))
@@ -181,5 +181,5 @@ module _ (m : Model) (n : ℕ) (w : Waiter) (h : WaiterAt m n w) where
 
 -- what `rewritten` answers on a line
 pub rewritten_makes : (m : Model) (x : Line) (r : Result Line Refusal) → MatchResult r (λ y. (first_of (rewrite_causes (Some x)) ≡ None) × (y ≡ rewritten_line x)) (λ e. first_of (rewrite_causes (Some x)) ≡ Some (number_of e)) → Makes r m (rewrite_causes (Some x)) (option_map rewritten_line (Some x))
-rewritten_makes m x (Ok y) h = (h.0, ap Some h.1, record { lawful = ap (lawful_line m.waits) h.1 ∙ rewritten_lawful m.waits x; indexed = ap (λ (z : Line). kind_under m.indices z.kind) h.1 })
+rewritten_makes m x (Ok y) h = (h.0, (ap Some h.1, record { lawful = ap (lawful_line m.waits) h.1 ∙ rewritten_lawful m.waits x; indexed = ap (λ (z : Line). kind_under m.indices z.kind) h.1 }))
 rewritten_makes m x (Err e) h = h

@@ -1,10 +1,10 @@
 -- The code's answers, with their numbers and values, and what its calls leave. Assumes nothing.
-use Rattle.std.specs.Prelude.{◌≡◌, ℕ, ◌<◌, true, false, List, [], ◌∷◌, length, Some, None, Ok, Err, Option, Result, slice_index_or}
+use Rattle.std.specs.Prelude.{◌≡◌, ℕ, ◌<◌, true, false, List, [], ◌∷◌, length, Some, Ok, Err, Option, Result, slice_index_or}
 use Rattle.std.specs.Option.{option_map}
 use Rattle.clauses.specs.declared.lines.Line.{Line}
 use Rattle.clauses.specs.declared.refusals.Refusal.{Refusal}
 use Rattle.clauses.specs.Lines.{refutes, blank}
-use Rattle.clauses.specs.Refusals.{Cause, first_of, number_of}
+use Rattle.clauses.specs.Refusals.{Cause, FirstOr, first_of, number_of}
 use Rattle.clauses.specs.Steps.{wait_literal}
 use Rattle.plans.specs.declared.refusals.PlanRefusal.{PlanRefusal}
 use Rattle.plans.specs.Refusals.{plan_number}
@@ -39,8 +39,7 @@ Lowest xs Undecided = (k : ℕ) → k < length xs → refutes (slice_index_or xs
 
 -- what a call comes to before its line is stored: the first of its causes, or the line, which the model may have
 abbrev pub Makes : Result Line Refusal → Model → List Cause → Option Line → Type 0
-Makes (Ok x) m cs o = (first_of cs ≡ None) × (Some x ≡ o) × MayHave m x
-Makes (Err e) m cs o = first_of cs ≡ Some (number_of e)
+Makes r m cs o = FirstOr number_of cs (λ x. (Some x ≡ o) × MayHave m x) r
 
 -- the line of a number waits, and its wait has this literal
 pub record WaiterAt (m : Model) (n : ℕ) (w : Waiter) : Type 0 where

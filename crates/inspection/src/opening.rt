@@ -1,6 +1,6 @@
 // How an inspection is opened: first the index count and the table are checked, then the table is lent.
-ghost use Rattle.std.specs.Prelude.{◌≡◌, min, length, Some, None, MatchResult};
-ghost use Rattle.clauses.specs.Refusals.{number_of, first_of};
+ghost use Rattle.std.specs.Prelude.{◌≡◌, min, length};
+ghost use Rattle.clauses.specs.Refusals.{number_of, FirstOr};
 ghost use Rattle.calls.specs.Calls.{open_causes};
 ghost use Rattle.calls.specs.Models.{fresh};
 ghost use Rattle.inspection.specs.Held.{model_of};
@@ -20,13 +20,13 @@ pub struct Opening {
 impl Opening {
     // Refuses a count or a table that no inspection may have.
     pub fn check(indices: u8, lines: &[Line]) -> Result<Opening, Refusal>
-        ensures { MatchResult result (λ o. (first_of (open_causes indices (length lines.now)) ≡ None) × (o.indices ≡ indices) × (o.room ≡ length lines.now)) (λ e. first_of (open_causes indices (length lines.now)) ≡ Some (number_of e)) }
+        ensures { FirstOr number_of (open_causes indices (length lines.now)) (λ o. (o.indices ≡ indices) × (o.room ≡ length lines.now)) result }
     {
-        if indices < 1 || indices > 16 {
+        if !(1..=16).contains(&indices) {
             return Err(Refusal::IndexCount);
         }
         let room = lines.len();
-        if room < 1 || room > 4096 {
+        if !(1..=4096).contains(&room) {
             return Err(Refusal::TableSize);
         }
         Ok(Opening { indices, room })

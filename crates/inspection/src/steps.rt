@@ -1,7 +1,7 @@
 // The calls that make lines from lines.
 ghost use Rattle.std.specs.Prelude.{◌≡◌, true, [], Some, None, MatchResult};
 ghost use Rattle.std.specs.Option.{option_map};
-ghost use Rattle.clauses.specs.Refusals.{first_of, number_of};
+ghost use Rattle.clauses.specs.Refusals.{FirstOr, first_of, number_of};
 ghost use Rattle.clauses.specs.Steps.{proper, rewritten_line};
 ghost use Rattle.inspection.specs.Accepted.{ByCalculus, Entering, Resolving, Rewriting, Staying};
 ghost use Rattle.calls.specs.Calls.{Call, entered_of, line_at, resolve_causes, resolved_of, rewrite_causes, stayed_of, wait_causes};
@@ -15,7 +15,7 @@ use clauses::{Line, Literal, Refusal};
 
 // The line resolved from two lines on a literal, or the first cause against it. No loop is open yet.
 fn resolvent(one: &Line, two: &Line, literal: Literal) -> Result<Line, Refusal>
-    ensures { proper one.now ≡ true → proper two.now ≡ true → MatchResult result (λ line. (first_of (resolve_causes [] (Some one.now) (Some two.now) literal) ≡ None) × (Some line ≡ resolved_of (Some one.now) (Some two.now) literal)) (λ e. first_of (resolve_causes [] (Some one.now) (Some two.now) literal) ≡ Some (number_of e)) }
+    ensures { proper one.now ≡ true → proper two.now ≡ true → FirstOr number_of (resolve_causes [] (Some one.now) (Some two.now) literal) (λ line. Some line ≡ resolved_of (Some one.now) (Some two.now) literal) result }
 {
     let kind = one.kind.joint(two.kind).ok_or(Refusal::Misfit)?;
     if !one.clashes(two, literal) {
@@ -30,7 +30,7 @@ fn resolvent(one: &Line, two: &Line, literal: Literal) -> Result<Line, Refusal>
 
 // The line rewritten, or the first cause against it.
 fn rewritten(line: &Line) -> Result<Line, Refusal>
-    ensures { MatchResult result (λ made. (first_of (rewrite_causes (Some line.now)) ≡ None) × (made ≡ rewritten_line line.now)) (λ e. first_of (rewrite_causes (Some line.now)) ≡ Some (number_of e)) }
+    ensures { FirstOr number_of (rewrite_causes (Some line.now)) (λ made. made ≡ rewritten_line line.now) result }
 {
     if !line.rewritable() {
         return Err(Refusal::Misfit);
@@ -101,7 +101,7 @@ impl<'a> Inspection<'a> {
             Makes result m (wait_causes line) (stayed_of m.waits line) }
     {
         let Waiter { wait, literal, .. } = self.waiter(number)?;
-        Ok(stayed(wait.scope, wait.goal, literal).unwrap())
+        Ok(stayed(wait.scope, wait.goal, literal))
     }
 
     // Resolves lines a and b on a literal on the right of a, whose opposite is on the right of b.

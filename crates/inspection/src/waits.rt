@@ -41,6 +41,7 @@ impl Waits {
         ensures { Some result ≡ option_map wait_literal (place_of (given_out self.now) wanted) }
     {
         let place = self.place(wanted).unwrap();
+        // Narrowed without loss, as the proof shows.
         Literal(2048 + 2 * place as u16)
     }
 
@@ -48,12 +49,11 @@ impl Waits {
     pub(crate) fn admit(&mut self, wanted: Option<Wait>) -> Result<(), Refusal>
         ensures { MatchResult result (λ _. (waitless (given_out self.old) wanted ≡ false) × (given_out self.new ≡ admitted (given_out self.old) wanted)) (λ e. (e ≡ NothingLeft) × (waitless (given_out self.old) wanted ≡ true) × (self.new ≡ self.old)) }
     {
-        let Some(wait) = wanted else {
-            return Ok(());
-        };
-        if self.place(wait).is_some() {
-            return Ok(());
+        match wanted {
+            Some(wait) if self.place(wait).is_none() => {
+                self.given.try_push(wait).map_err(|_| Refusal::NothingLeft)
+            }
+            _ => Ok(()),
         }
-        self.given.try_push(wait).map_err(|_| Refusal::NothingLeft)
     }
 }

@@ -25,7 +25,7 @@ pub fn ascends<T: Ord>(items: &[T]) -> bool
     items.is_sorted_by(|x, next| x < next)
 }
 
-// Whether each pair is below the next.
+// Whether each pair is below the next, whatever the pairs are: their order is known to be lawful.
 #[tactic(auto, using(crate::specs::Pairs::pair_order))]
 pub fn pairs_ascend(items: &[Pair]) -> bool
     ensures { result ≡ ascending pair_rank items.now }
