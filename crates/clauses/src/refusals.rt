@@ -20,7 +20,7 @@ pub enum Refusal {
 }
 
 impl Refusal {
-    // The number by which the refusal is reported.
+    // The number by which the refusal is reported; each layer has this method, since each promises its own numbers.
     pub fn number(self) -> u8
         ensures { result ≡ number_of self }
     {

@@ -19,7 +19,7 @@ pub struct ReaderFault {
 }
 
 impl Flaw {
-    // The number by which the flaw is reported.
+    // The number by which the flaw is reported; each layer has this method, since each promises its own numbers.
     pub fn number(self) -> u8
         ensures { result ≡ flaw_number self }
     {

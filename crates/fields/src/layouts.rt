@@ -158,7 +158,7 @@ fn work_field(tag: u8, value: &[u8]) -> Result<Field<'_>, Flaw>
     shown.ok_or(Flaw::WrongLength)
 }
 
-// The field of a tag and a value at an offset of a file.
+// The field of a tag, which is the byte of the file, and a value at an offset.
 pub(crate) fn field_of(
     source: Source,
     offset: usize,
