@@ -1,7 +1,7 @@
 // The rules judged one after another.
-ghost use Rattle.std.specs.Prelude.{◌≡◌, ◌<◌, ◌≤◌, ◌++◌, length, drop, replicate, IfOk, Some, None, MatchResult};
+ghost use Rattle.std.specs.Prelude.{◌≡◌, ◌<◌, ◌≤◌, ◌++◌, length, drop, replicate, IfOk, MatchResult};
 ghost use Rattle.clauses.specs.Lines.{literals};
-ghost use Rattle.clauses.specs.Refusals.{first_of};
+ghost use Rattle.clauses.specs.Refusals.{FirstOr};
 ghost use Rattle.truth.specs.Decided.{Fits};
 ghost use Rattle.truth.specs.Deciding.{breaks};
 ghost use Rattle.truth.specs.Systems.{WellFormed};
@@ -87,7 +87,7 @@ pub fn judge_rules<P: Plan>(
     rules: &[Line],
     marks: &mut [u8],
 ) -> Result<Judgement, PlanRefusal>
-    ensures answer { MatchResult result (λ j. (first_of (judge_causes indices (length marks.old) (P.Plan.system plan.now)) ≡ None) × (AllFit (P.Plan.system plan.now) rules.now → j ≡ judgement (P.Plan.system plan.now) rules.now)) (λ e. first_of (judge_causes indices (length marks.old) (P.Plan.system plan.now)) ≡ Some (plan_number e)) }
+    ensures answer { FirstOr plan_number (judge_causes indices (length marks.old) (P.Plan.system plan.now)) (λ j. AllFit (P.Plan.system plan.now) rules.now → j ≡ judgement (P.Plan.system plan.now) rules.now) result }
     ensures exactly { IfOk result (λ j. AllFit (P.Plan.system plan.now) rules.now → Exactly (P.Plan.system plan.now) rules.now j) }
     ensures marks { MatchResult result (λ _. marks.new ≡ replicate (P.Plan.system plan.now).states 0 ++ drop (P.Plan.system plan.now).states marks.old) (λ _. marks.new ≡ marks.old) }
 {

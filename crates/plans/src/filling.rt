@@ -1,6 +1,6 @@
 // How plans are made and filled.
-ghost use Rattle.std.specs.Prelude.{◌≡◌, [], ◌∷◌, Some, None, MatchResult};
-ghost use Rattle.clauses.specs.Refusals.{first_of};
+ghost use Rattle.std.specs.Prelude.{◌≡◌, [], ◌∷◌, MatchResult, ⊤};
+ghost use Rattle.clauses.specs.Refusals.{FirstOr};
 ghost use Rattle.plans.specs.Held.{ring_of, table_of};
 ghost use Rattle.plans.specs.Refusals.{plan_number};
 ghost use Rattle.plans.specs.Rings.{ring_causes, ring_system};
@@ -54,7 +54,7 @@ fn check_tables(
     truths: &[Pair],
     moves: &[Pair],
 ) -> Result<(), PlanRefusal>
-    ensures { MatchResult result (λ _. first_of (table_causes states indices targets.now truths.now moves.now) ≡ None) (λ e. first_of (table_causes states indices targets.now truths.now moves.now) ≡ Some (plan_number e)) }
+    ensures { FirstOr plan_number (table_causes states indices targets.now truths.now moves.now) (λ _. ⊤) result }
 {
     let used = targets
         .get(..usize::from(states) * usize::from(indices))
@@ -95,7 +95,7 @@ impl<'a> TablePlan<'a> {
         truths: &'a [Pair],
         moves: &'a [Pair],
     ) -> Result<(), PlanRefusal>
-        ensures answer { MatchResult result (λ _. first_of (table_causes states indices targets.now truths.now moves.now) ≡ None) (λ e. first_of (table_causes states indices targets.now truths.now moves.now) ≡ Some (plan_number e)) }
+        ensures answer { FirstOr plan_number (table_causes states indices targets.now truths.now moves.now) (λ _. ⊤) result }
         ensures after { MatchResult result (λ _. table_of self.new ≡ table_system states indices targets.now truths.now moves.now) (λ _. table_of self.new ≡ table_of self.old) }
     {
         check_tables(states, indices, targets, truths, moves)?;
@@ -112,7 +112,7 @@ impl<'a> TablePlan<'a> {
 
 // The first cause against a ring. No part is shared with the tables: a cause of the order goes before every cause of the range.
 fn check_ring(states: u16, indices: u8, back: u16, truths: &[Pair]) -> Result<(), PlanRefusal>
-    ensures { MatchResult result (λ _. first_of (ring_causes states indices back truths.now) ≡ None) (λ e. first_of (ring_causes states indices back truths.now) ≡ Some (plan_number e)) }
+    ensures { FirstOr plan_number (ring_causes states indices back truths.now) (λ _. ⊤) result }
 {
     if !pairs_ascend(truths) {
         return Err(PlanRefusal::NotAscending);
@@ -144,7 +144,7 @@ impl<'a> Ring<'a> {
         back: u16,
         truths: &'a [Pair],
     ) -> Result<(), PlanRefusal>
-        ensures answer { MatchResult result (λ _. first_of (ring_causes states indices back truths.now) ≡ None) (λ e. first_of (ring_causes states indices back truths.now) ≡ Some (plan_number e)) }
+        ensures answer { FirstOr plan_number (ring_causes states indices back truths.now) (λ _. ⊤) result }
         ensures after { MatchResult result (λ _. ring_of self.new ≡ ring_system states indices back truths.now) (λ _. ring_of self.new ≡ ring_of self.old) }
     {
         check_ring(states, indices, back, truths)?;
