@@ -4,7 +4,7 @@ use Rattle.clauses.specs.declared.kinds.Kind.{Kind}
 use Rattle.clauses.specs.declared.kinds.Kind.TheVariants.{Start, Global, Step, Sometime}
 use Rattle.clauses.specs.declared.kinds.Scope.{Scope}
 use Rattle.clauses.specs.declared.literals.Literal.{Literal}
-use Rattle.truth.specs.Systems.{System}
+use Rattle.truth.specs.Systems.{Speaks, System}
 use Rattle.truth.specs.Truth.{right_at}
 use Rattle.truth.specs.Deciding.{every_next, sooner}
 
@@ -33,6 +33,10 @@ Within marks p = (s : ℕ) → s < length marks → marked marks s ≡ true → 
 -- the marks of the one are among those of the other
 abbrev pub Grows : List ℕ → List ℕ → Type 0
 Grows before after = Within before (marked after)
+
+-- P holds where the system has the index that the scope speaks of, if it speaks of one
+abbrev pub IfSpeaks : System → Scope → Type 0 → Type 0
+IfSpeaks sys scope P = Speaks sys scope → P
 
 -- a state is marked if every move of the scope from it leads to a marked one
 abbrev pub Closed : System → Scope → List ℕ → Type 0

@@ -2,10 +2,10 @@
 ghost use Rattle.std.specs.Prelude.{◌≡◌, ℕ, ◌<◌, ◌≤◌, Bool, true, false, length, replicate};
 ghost use Rattle.clauses.specs.Lines.{literals};
 ghost use Rattle.truth.specs.Decided.{Fits};
-ghost use Rattle.truth.specs.Systems.{Speaks, WellFormed};
+ghost use Rattle.truth.specs.Systems.{WellFormed};
 ghost use Rattle.truth.specs.Truth.{right_at};
 ghost use Rattle.truth.specs.Deciding.{every_next, sooner};
-ghost use Rattle.judging.specs.Marks.{Closed, Grows, Shows, Within, asked, marked, state_at, unmarked};
+ghost use Rattle.judging.specs.Marks.{Closed, Grows, IfSpeaks, Shows, Within, asked, marked, state_at, unmarked};
 
 use crate::truths::At;
 use clauses::{Kind, Line, Literal, Scope};
@@ -61,7 +61,7 @@ impl<'p, 'm, P: Plan> Marked<'p, 'm, P> {
     #[tactic(auto, using(crate::proofs::Targets::target_stays, crate::proofs::Targets::free_target_stays))]
     pub(crate) fn next_marked(&self, scope: Scope, state: u16) -> bool
         requires { state < length self.now.marks.now }
-        ensures { let sys = P.Plan.system self.now.plan.now in Speaks sys scope → result ≡ every_next sys scope (marked self.now.marks.now) state }
+        ensures { let sys = P.Plan.system self.now.plan.now in IfSpeaks sys scope (result ≡ every_next sys scope (marked self.now.marks.now) state) }
     {
         match scope {
             Scope::All => {
@@ -79,9 +79,9 @@ impl<'p, 'm, P: Plan> Marked<'p, 'm, P> {
     fn grow_once(&mut self, scope: Scope, up: bool) -> bool
         ensures only { OnlyMarks self.old self.new }
         ensures grows { Grows self.old.marks.now self.new.marks.now }
-        ensures within { let sys = P.Plan.system self.old.plan.now in Speaks sys scope → (p : ℕ → Bool) → Within self.old.marks.now (sooner sys scope p) → Within self.new.marks.now (sooner sys scope p) }
+        ensures within { let sys = P.Plan.system self.old.plan.now in IfSpeaks sys scope ((p : ℕ → Bool) → Within self.old.marks.now (sooner sys scope p) → Within self.new.marks.now (sooner sys scope p)) }
         ensures more { result ≡ true → unmarked self.new.marks.now < unmarked self.old.marks.now }
-        ensures closed { let sys = P.Plan.system self.old.plan.now in Speaks sys scope → result ≡ false → Closed sys scope self.new.marks.now }
+        ensures closed { let sys = P.Plan.system self.old.plan.now in IfSpeaks sys scope (result ≡ false → Closed sys scope self.new.marks.now) }
     {
         let states = self.marks.len();
         let mut grown = false;
@@ -100,7 +100,7 @@ impl<'p, 'm, P: Plan> Marked<'p, 'm, P> {
     // moves in either direction are followed to their end in one.
     fn grow(&mut self, scope: Scope)
         ensures only { OnlyMarks self.old self.new }
-        ensures shown { let sys = P.Plan.system self.old.plan.now in Speaks sys scope → (p : ℕ → Bool) → Shows self.old.marks.now p → Shows self.new.marks.now (sooner sys scope p) }
+        ensures shown { let sys = P.Plan.system self.old.plan.now in IfSpeaks sys scope ((p : ℕ → Bool) → Shows self.old.marks.now p → Shows self.new.marks.now (sooner sys scope p)) }
     {
         let mut up = false;
         while self.grow_once(scope, up) {
