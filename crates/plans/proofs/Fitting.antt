@@ -59,12 +59,15 @@ none_beyond one two s a (p ∷ ps) fits far =
 below_part : (n : ℕ) (truths : List Pair) → truths_fit n truths ≡ true → pairs_below n 1024 truths ≡ true
 below_part n truths fits = (and_parts (leb (length truths) 8192) (pairs_below n 1024 truths) fits).1
 
-pub truths_beyond : (n s a : ℕ) (truths : List Pair) → truths_fit n truths ≡ true → 1023 < a → holds pair_rank truths (pair s a) ≡ false
-truths_beyond n s a truths fits far = none_beyond n 1024 s a truths (below_part n truths fits) (inr far)
-
--- the truths of a plan of n states, asked at any state and atom
-pub truths_answer : (n s a : ℕ) (truths : List Pair) → truths_fit n truths ≡ true → holds pair_rank truths (pair s a) ≡ (ltb s n && holds pair_rank truths (pair s a))
-truths_answer n s a truths fits = ⊎_elim (λ l. ap (λ b. b && holds pair_rank truths (pair s a)) (sym (lt-ltb s n l))) (λ l. none_beyond n 1024 s a truths (below_part n truths fits) (inl l) ∙ ap (λ b. b && holds pair_rank truths (pair s a)) (sym (le-ltb s n l))) (cases_lt s n)
+-- what is told by the truths of a plan of n states, asked at any state and atom
+pub truths_answer : (n s a : ℕ) (truths : List Pair) (told : Bool) → truths_fit n truths ≡ true → told ≡ holds pair_rank truths (pair s a) → record { value : told ≡ (ltb s n && holds pair_rank truths (pair s a)); beyond : 1023 < a → told ≡ false }
+truths_answer n s a truths told fits is =
+    let below = below_part n truths fits in
+    let held = holds pair_rank truths (pair s a) in
+    record {
+      value = is ∙ ⊎_elim (λ l. ap (λ b. b && held) (sym (lt-ltb s n l))) (λ l. none_beyond n 1024 s a truths below (inl l) ∙ ap (λ b. b && held) (sym (le-ltb s n l))) (cases_lt s n);
+      beyond = λ far. is ∙ none_beyond n 1024 s a truths below (inr far);
+    }
 
 pub record TableFits (plan : TablePlan) : Type 0 where
   pub begins : 1 ≤ plan.states

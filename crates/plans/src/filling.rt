@@ -46,7 +46,7 @@ fn moves_fit(states: u16, moves: &[Pair]) -> bool
     moves.len() <= 4096 && pairs_below(states, states, moves)
 }
 
-// The first cause against tables of so many states and indices.
+// The first cause against tables of so many states and indices. They are given one by one, as the call that fills takes them.
 fn check_tables(
     states: u16,
     indices: u8,
