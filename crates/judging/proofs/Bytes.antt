@@ -1,17 +1,12 @@
 -- Marks as bytes, what one write does to them, and how a test of all numbers below a bound goes on. Assumes nothing.
-use Rattle.std.proofs.Common.{◌≡◌, ℕ, zero, suc, ◌+◌, ◌<◌, Bool, true, false, cond, not, eqb, ◌≢◌, ◌&&◌, zero-add, refl, List, [], ◌∷◌, ◌++◌, length, get_or, drop, set, replicate, sym, ap, ◌∙◌, ap₂, ⊎_elim, add-one, arith, map, get_or-set_other, get_or-set_same}
-use Rattle.std.proofs.lemmas.Bool.{cases_eq, cond-true, eq-eqb, ne_eqb, not_from_false}
+use Rattle.std.proofs.Common.{◌≡◌, ℕ, zero, suc, ◌+◌, ◌<◌, Bool, true, false, cond, not, eqb, ◌≢◌, ◌&&◌, zero-add, refl, List, [], ◌∷◌, ◌++◌, length, drop, set, replicate, sym, ap, ◌∙◌, ap₂, ⊎_elim, add-one, arith, map, get_or-set_other, get_or-set_same}
+use Rattle.std.proofs.lemmas.Bool.{cases_eq, cond-true, not-false}
 use Rattle.std.specs.List.{list_all, range_with_len}
 use Rattle.std.proofs.lemmas.List.Folds.{list_all-append, list_all-map}
 use Rattle.std.proofs.Math.Bool.{and-true}
 use Rattle.std.proofs.lemmas.List.FromFn.{map-range_with_len_more}
 use Rattle.truth.specs.Deciding.{all_below}
 use Rattle.judging.specs.Marks.{marked, unmarked}
-
--- ---- one byte
-
-pub is_marked : (marks : List ℕ) (s : ℕ) → (get_or marks s 0 ≡ 0 → ⊥) → marked marks s ≡ true
-is_marked marks s is = not_from_false _ (ne_eqb (get_or marks s 0) 0 is)
 
 -- ---- one write
 
@@ -34,9 +29,9 @@ suc_under : (b : Bool) (m n : ℕ) → suc m ≡ n → suc (cond b (suc m) m) �
 suc_under true m n e = ap suc e
 suc_under false m n e = e
 
-pub unmarked_less : (marks : List ℕ) (i : ℕ) → i < length marks → get_or marks i 0 ≡ 0 → suc (unmarked (set marks i 1)) ≡ unmarked marks
+pub unmarked_less : (marks : List ℕ) (i : ℕ) → i < length marks → marked marks i ≡ false → suc (unmarked (set marks i 1)) ≡ unmarked marks
 unmarked_less [] i lt is = absurd (omega arith)
-unmarked_less (m ∷ ms) zero lt is = sym (cond-true (eqb m 0) (suc (unmarked ms)) (unmarked ms) (eq-eqb m 0 is))
+unmarked_less (m ∷ ms) zero lt is = sym (cond-true (eqb m 0) (suc (unmarked ms)) (unmarked ms) (not-false _ is))
 unmarked_less (m ∷ ms) (suc i) lt is = suc_under (eqb m 0) _ _ (unmarked_less ms i (omega arith) is)
 
 -- ---- a front of zeros

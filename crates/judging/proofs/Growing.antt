@@ -1,5 +1,5 @@
 -- Marks that grow until they are closed show what is met sooner or later. Assumes nothing.
-use Rattle.std.proofs.Common.{◌≡◌, ℕ, ◌+◌, ◌-◌, ◌<◌, ◌≤◌, Bool, true, false, ◌⊎◌, List, length, get_or, set, sym, ap, ◌∙◌, subst, inl, inr, ⊎_elim, arith, length-set}
+use Rattle.std.proofs.Common.{◌≡◌, ℕ, ◌+◌, ◌-◌, ◌<◌, ◌≤◌, Bool, true, false, ◌⊎◌, List, length, set, sym, ap, ◌∙◌, subst, inl, inr, ⊎_elim, arith, length-set}
 use Rattle.std.proofs.lemmas.Bool.{true≢false, cases_eq, or_cases, or_right}
 use Rattle.std.proofs.lemmas.Bool.Decides.{same_from_decides}
 use Rattle.clauses.specs.declared.kinds.Scope.{Scope}
@@ -34,7 +34,7 @@ module _ (sys : System) (scope : Scope) (entry marks : List ℕ) (grown : Bool) 
   }
 
   -- a state that is marked now
-  module _ (formed : WellFormed sys) (states : length marks ≡ sys.states) (width : length entry ≡ length marks) (there : i < length marks) (was : get_or marks i 0 ≡ 0) where
+  module _ (formed : WellFormed sys) (states : length marks ≡ sys.states) (width : length entry ≡ length marks) (there : i < length marks) (was : marked marks i ≡ false) where
     -- it belongs to whatever holds the marks so far and is met sooner or later
     belongs : (p : ℕ → Bool) → Speaks sys scope → every_next sys scope (marked marks) i ≡ true → Within marks (sooner sys scope p) → sooner sys scope p i ≡ true
     belongs p speaks all h =

@@ -83,13 +83,13 @@ impl<'p, 'm, P: Plan> Marked<'p, 'm, P> {
         ensures more { result ≡ true → unmarked self.new.marks.now < unmarked self.old.marks.now }
         ensures closed { let sys = P.Plan.system self.old.plan.now in IfSpeaks sys scope (result ≡ false → Closed sys scope self.new.marks.now) }
     {
-        let states = self.marks.len();
+        let states = self.plan.states();
         let mut grown = false;
-        // The order is a flag: a lent iterator would have to promise that it ends and that it passes every state.
+        // The order is a flag, since an iterator or a closure would have to promise that it passes every state: no plainer.
         for step in 0..states {
             let state = state_at(states, up, step);
-            if self.marks[state] == 0 && self.next_marked(scope, state as u16) {
-                self.marks[state] = 1;
+            if !self.shows(state) && self.next_marked(scope, state) {
+                self.marks[usize::from(state)] = 1;
                 grown = true;
             }
         }
@@ -121,7 +121,7 @@ impl<'p, 'm, P: Plan> Marked<'p, 'm, P> {
 }
 
 // The state of a step through so many, from the lowest up or from the highest down.
-fn state_at(states: usize, up: bool, step: usize) -> usize
+fn state_at(states: u16, up: bool, step: u16) -> u16
     requires { step < states }
     ensures value { result ≡ state_at states up step }
     ensures there { result < states }
