@@ -31,6 +31,7 @@ impl<'p, 'm, P: Plan> Marked<'p, 'm, P> {
     {
         let plan = self.plan;
         for (state, mark) in self.marks.iter_mut().enumerate() {
+            // Tried: a zip with the numbers of the states, after which nothing is known of the marks; the proof did not close.
             let at = At {
                 plan,
                 state: state as u16,
