@@ -27,6 +27,7 @@ fn take_rule(
 {
     let left: ArrayVec<Literal, 255> = elements(left);
     let right: ArrayVec<Literal, 255> = elements(right);
+    // The kind stays a number: the call refuses one that names no kind.
     inspection.rule(kind, index, &left, &right)
 }
 
@@ -80,11 +81,9 @@ impl<'r, 'f, 'l> Run<'r, 'f, 'l> {
         let mut count = 0;
         loop {
             let offset = self.place();
-            let taken = self.next_rule().map_err(|refused| Fault {
-                refused,
-                file: File::Book,
-                offset,
-            })?;
+            let taken = self
+                .next_rule()
+                .map_err(|refused| refused.at(File::Book, offset))?;
             let Some(_) = taken else {
                 return Ok(count);
             };

@@ -84,7 +84,21 @@ impl From<Refusal> for Refused {
     }
 }
 
+impl Refused {
+    // The fault of a field at an offset of a file.
+    pub(crate) fn at(self, file: File, offset: usize) -> Fault
+        ensures { (result.refused ≡ self) × (result.file ≡ file) × (result.offset ≡ offset) }
+    {
+        Fault {
+            refused: self,
+            file,
+            offset,
+        }
+    }
+}
+
 impl Fault {
+    // Not a cast: each layer's refusals have numbers of their own.
     pub fn number(self) -> u8
         ensures { result ≡ refused_number self.refused }
     {

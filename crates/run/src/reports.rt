@@ -10,7 +10,7 @@ ghost use Rattle.run.specs.Steps.{LinesGrow, rest_of};
 ghost use Rattle.run.specs.Text.{readable, report, run_text, table_of};
 
 use crate::books::begin;
-use crate::faults::{Fault, File};
+use crate::faults::File;
 use crate::runs::Run;
 use clauses::Line;
 use fields::{Reader, Source};
@@ -63,14 +63,11 @@ fn write_run(
     ensures table { OnOk result (lines.new ≡ overlay (made_by work.now (book_of (length lines.old) (items_of source.Book book.now))) lines.old) }
 {
     let mut reader = Reader::new(Source::Book, book);
+    // A match, since a refused begin writes the report's only line.
     let opening = match begin(&mut reader, lines) {
         Ok(opening) => opening,
         Err(refused) => {
-            let fault = Fault {
-                refused,
-                file: File::Book,
-                offset: 0,
-            };
+            let fault = refused.at(File::Book, 0);
             return writeln!(text, "book {fault}");
         }
     };
@@ -89,6 +86,7 @@ pub fn report(
     ensures table { OnOk result (lines.new ≡ table_of (option_map (λ x. x.now) book.entry) (option_map (λ x. x.now) work.entry) lines.old) }
 {
     let mut text = String::new(heap);
+    // An unread file, the book or the work, ends the report, and is no failure.
     let Some(book) = readable(book) else {
         writeln!(text, "unread {}", File::Book)?;
         return Ok(text);

@@ -9,7 +9,7 @@ ghost use Rattle.run.specs.Runs.{after_work, work_call};
 ghost use Rattle.run.specs.Steps.{Continues, Did, IsWork, LinesGrow, OneLine, Onward, Written};
 ghost use Rattle.run.specs.Text.{work_text};
 
-use crate::faults::{Fault, File, Refused};
+use crate::faults::{File, Refused};
 use crate::outcomes::Outcome;
 use crate::runs::Run;
 use clauses::{Literal, Refusal};
@@ -33,10 +33,9 @@ fn perform(inspection: &mut Inspection, field: Field) -> Result<usize, Refusal>
         Field::Rewrite { line } => inspection.rewrite(usize::from(line)),
         Field::Enter { line } => inspection.enter(usize::from(line)),
         Field::Stay { line } => inspection.stay(usize::from(line)),
-        Field::TablePlan { .. } => unreachable(),
-        Field::Ring { .. } => unreachable(),
-        Field::Begin { .. } => unreachable(),
-        Field::Rule { .. } => unreachable(),
+        Field::TablePlan { .. } | Field::Ring { .. } | Field::Begin { .. } | Field::Rule { .. } => {
+            unreachable()
+        }
     }
 }
 
@@ -69,11 +68,7 @@ impl<'r, 'f, 'l> Run<'r, 'f, 'l> {
                 writeln!(text, "{number} {outcome}")?
             }
             Err(refused) => {
-                let fault = Fault {
-                    refused,
-                    file: File::Work,
-                    offset,
-                };
+                let fault = refused.at(File::Work, offset);
                 writeln!(text, "{number} {fault}")?
             }
         }
