@@ -36,7 +36,19 @@ pub record Continues (run run' : Run) : Type 0 where
   pub lines : LinesGrow run.inspection.now run'.inspection.now
   pub borrowed : run'.inspection.ghost_name ≡ run.inspection.ghost_name
 
+-- a field moves the place from p on to q, of so many bytes
+abbrev pub Onward : Result (Option ℕ) Refused → ℕ → ℕ → ℕ → Type 0
+Onward (Ok (Some line)) bytes p q = (p < q) × (q ≤ bytes)
+Onward (Ok None) bytes p q = Unit {0}
+Onward (Err e) bytes p q = (p < q) × (q ≤ bytes)
+
 -- ---- the book
+
+-- a reader of a book that is begun
+pub record InBook (r : Reader) : Type 0 where
+  pub book : r.source ≡ source.Book
+  pub begun : 0 < r.place
+  pub within : r.place ≤ length r.bytes.now
 
 -- the rules that a run has before it, at most k of them, after n others
 abbrev pub ahead : ℕ → Run → ℕ → Book
@@ -59,12 +71,6 @@ told_book (Err fault) m = stopped m.lines (refused_number fault.refused) fault.o
 
 abbrev pub AllRules : Result ℕ Fault → Run → Run → Type 0
 AllRules x run run' = (k : ℕ) → length run.reader.bytes.now < run.reader.place + k → ahead k run 0 ≡ told_book x (model_of run'.inspection.now)
-
--- a rule was taken in, and the place went from p on to q, of so many bytes
-abbrev pub Goes : Result (Option ℕ) Refused → ℕ → ℕ → ℕ → Type 0
-Goes (Ok (Some line)) bytes p q = (p < q) × (q ≤ bytes)
-Goes (Ok None) bytes p q = Unit {0}
-Goes (Err e) bytes p q = Unit {0}
 
 -- the begin of a book whose lines go into a table with this much room
 abbrev pub Begun : Result Opening Refused → ℕ → Reader → Reader → Type 0
@@ -95,12 +101,6 @@ abbrev pub OneLine : Result (Option ℕ) Refused → Run → Run → Type 0
 OneLine (Ok (Some n)) run run' = ((j i : ℕ) → lines_ahead (suc j) run i ≡ line_text i n ++ lines_ahead j run' (i + 1)) × ((j : ℕ) → left_ahead (suc j) run ≡ left_ahead j run')
 OneLine (Ok None) run run' = ((j i : ℕ) → lines_ahead (suc j) run i ≡ verdict_text (answer (model_of run'.inspection.now) verdict)) × ((j : ℕ) → left_ahead (suc j) run ≡ (model_of run'.inspection.now).lines)
 OneLine (Err e) run run' = ((j i : ℕ) → lines_ahead (suc j) run i ≡ no_text i (refused_number e) run.reader.place ++ lines_ahead j run' (i + 1)) × ((j : ℕ) → left_ahead (suc j) run ≡ left_ahead j run')
-
--- a field moves the place from p on to q, of so many bytes
-abbrev pub Onward : Result (Option ℕ) Refused → ℕ → ℕ → ℕ → Type 0
-Onward (Ok (Some line)) bytes p q = (p < q) × (q ≤ bytes)
-Onward (Ok None) bytes p q = Unit {0}
-Onward (Err e) bytes p q = (p < q) × (q ≤ bytes)
 
 -- a call was made, and left a model as it should
 abbrev pub Did : Option Call → Result ℕ Refusal → Model → Model → Type 0

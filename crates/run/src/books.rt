@@ -1,10 +1,10 @@
 // How a book is taken in.
-ghost use Rattle.std.specs.Prelude.{◌≡◌, ◌<◌, ◌≤◌, length, IfErr};
+ghost use Rattle.std.specs.Prelude.{◌≡◌, ◌≤◌, length, IfErr};
 ghost use Rattle.fields.specs.declared.shapes.Source.TheVariants as source;
 ghost use Rattle.inspection.specs.Told.{Does, told_line};
 ghost use Rattle.run.specs.declared.faults.File.TheVariants as file;
 ghost use Rattle.run.specs.Runs.{rule_call};
-ghost use Rattle.run.specs.Steps.{AllRules, Begun, Continues, Goes, OneRule};
+ghost use Rattle.run.specs.Steps.{AllRules, Begun, Continues, InBook, OneRule, Onward};
 
 use crate::faults::{Fault, File, Refused};
 use crate::parts::elements;
@@ -47,10 +47,9 @@ pub(crate) fn begin(reader: &mut Reader, lines: &[Line]) -> Result<Opening, Refu
 impl<'r, 'f, 'l> Run<'r, 'f, 'l> {
     // Takes in the next rule of the book, and answers its line; none at the end.
     fn next_rule(&mut self) -> Result<Option<usize>, Refused>
-        requires book { self.old.reader.source ≡ source.Book }
-        requires begun { 0 < self.old.reader.place }
+        requires { InBook self.old.reader }
         ensures on { Continues self.old self.new }
-        ensures moves { Goes result (length self.old.reader.bytes.now) self.old.reader.place self.new.reader.place }
+        ensures moves { Onward result (length self.old.reader.bytes.now) self.old.reader.place self.new.reader.place }
         ensures step { OneRule result self.old self.new }
     {
         let Some(field) = self.reader.next_field()? else {
@@ -71,9 +70,7 @@ impl<'r, 'f, 'l> Run<'r, 'f, 'l> {
 
     // Takes in the rules after the begin of a book, and answers how many there are.
     pub(crate) fn take_rules(&mut self) -> Result<usize, Fault>
-        requires book { self.old.reader.source ≡ source.Book }
-        requires begun { 0 < self.old.reader.place }
-        requires within { self.old.reader.place ≤ length self.old.reader.bytes.now }
+        requires { InBook self.old.reader }
         ensures file { IfErr result (λ fault. fault.file ≡ file.Book) }
         ensures rules { AllRules result self.old self.new }
         ensures on { Continues self.old self.new }

@@ -1,12 +1,12 @@
 // The report of a book and a work.
-ghost use Rattle.std.specs.Prelude.{◌<◌, ◌≤◌, ◌≡◌, ◌++◌, length, IfOk, string_bytes, OnOk};
+ghost use Rattle.std.specs.Prelude.{◌≡◌, ◌++◌, length, IfOk, string_bytes, OnOk};
 ghost use Rattle.std.specs.Option.{option_map};
 ghost use Rattle.fields.specs.declared.shapes.Source.TheVariants as source;
 ghost use Rattle.calls.specs.Models.{overlay};
 ghost use Rattle.run.specs.Files.{items_of};
 ghost use Rattle.run.specs.Runs.{book_of, made_by};
 ghost use Rattle.inspection.specs.Held.{model_of};
-ghost use Rattle.run.specs.Steps.{LinesGrow, rest_of};
+ghost use Rattle.run.specs.Steps.{InBook, LinesGrow, rest_of};
 ghost use Rattle.run.specs.Text.{readable, report, run_text, table_of};
 
 use crate::books::begin;
@@ -34,9 +34,7 @@ fn write_opened<'f>(
     inspection: &mut Inspection,
     work: &'f [u8],
 ) -> Result<(), AllocError>
-    requires book { reader.source ≡ source.Book }
-    requires begun { 0 < reader.place }
-    requires within { reader.place ≤ length reader.bytes.now }
+    requires { InBook reader }
     ensures lines { LinesGrow inspection.old inspection.new }
     ensures text { OnOk result (string_bytes text.new ≡ string_bytes text.old ++ run_text work.now (rest_of reader.entry (model_of inspection.old))) }
     ensures left { OnOk result ((model_of inspection.new).lines ≡ made_by work.now (rest_of reader.entry (model_of inspection.old))) }

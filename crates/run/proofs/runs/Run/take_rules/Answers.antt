@@ -2,13 +2,13 @@ use Rattle.std.proofs.Common.{◌≡◌, length, Ok, Err, None, sym, ap, ◌∙�
 use Rattle.inspection.specs.Held.{model_of}
 use Rattle.run.specs.Faults.{refused_number}
 use Rattle.run.specs.Runs.{stopped}
-use Rattle.run.specs.Steps.{AllRules, Goes, OneRule}
+use Rattle.run.specs.Steps.{AllRules, OneRule, Onward}
 use Rattle.run.proofs.Continuing.{then_on}
 use Rattle.run.proofs.Taking.{start, ends, one_more}
 use Rattle.run.proofs.runs.Run.take_rules.Goals as goal
 
 pub loop-taken-init : goal.loop-taken-init
-loop-taken-init c = start c.args.self.now c.requires.book c.requires.begun c.requires.within
+loop-taken-init c = start c.args.self.now c.requires
 
 pub loop-taken-preserved : goal.loop-taken-preserved
 loop-taken-preserved c =
@@ -17,7 +17,7 @@ loop-taken-preserved c =
     let next = c.next_rule.ensures in
     let took : c.next_rule.result ≡ Ok c.in_ok-taken.taken = search rules in
     let some = took ∙ ap Ok c.in-Some.is in
-    let on = subst (λ o. Goes o (length s.reader.bytes.now) s.reader.place s'.reader.place) some next.moves in
+    let on = subst (λ o. Onward o (length s.reader.bytes.now) s.reader.place s'.reader.place) some next.moves in
     one_more c.loop-taken.invariant s' next.on on.0 on.1 (subst (λ o. OneRule o s s') some next.step)
 
 pub returns-in_default : goal.returns-in_default
