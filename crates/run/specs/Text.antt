@@ -1,11 +1,15 @@
 -- The report, byte by byte. Assumes nothing.
-use Rattle.std.specs.Prelude.{ℕ, ◌+◌, cond, List, [], ◌∷◌, ◌++◌, length, Some, None, codes, decimal, Option, nat_le}
+use Rattle.std.specs.Prelude.{◌≡◌, ℕ, ◌+◌, cond, List, [], ◌∷◌, ◌++◌, length, Some, None, codes, decimal, Option, Result, nat_le, String, string_bytes, OnOk}
 use Rattle.fields.specs.declared.shapes.Source.TheVariants as source
 use Rattle.calls.specs.Calls.{Answer, line, impossible, undecided, kept, broken, opens, closes, drops, unmet, told, refused, after, answer, verdict}
 use Rattle.clauses.specs.declared.lines.Line.{Line}
 use Rattle.calls.specs.Models.{Model, overlay}
 use Rattle.run.specs.Files.{Item, shown, flawed, items_of}
 use Rattle.run.specs.Runs.{Book, taken, stopped, book_of, made_by, work_call}
+
+-- where there is a result, the later text is the one before with these bytes after it
+abbrev pub Appends : {X E A : Type 0} → Result X E → String A → String A → List ℕ → Type 0
+Appends r text text' bytes = OnOk r (string_bytes text' ≡ string_bytes text ++ bytes)
 
 abbrev pub book_text : ℕ → ℕ → List ℕ
 book_text k rules = codes "book " ++ (decimal k ++ (codes " " ++ (decimal rules ++ codes "\n")))

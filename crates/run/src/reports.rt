@@ -1,5 +1,5 @@
 // The report of a book and a work.
-ghost use Rattle.std.specs.Prelude.{◌≡◌, ◌++◌, length, IfOk, string_bytes, OnOk};
+ghost use Rattle.std.specs.Prelude.{◌≡◌, length, IfOk, string_bytes, OnOk};
 ghost use Rattle.std.specs.Option.{option_map};
 ghost use Rattle.fields.specs.declared.shapes.Source.TheVariants as source;
 ghost use Rattle.calls.specs.Models.{overlay};
@@ -7,7 +7,7 @@ ghost use Rattle.run.specs.Files.{items_of};
 ghost use Rattle.run.specs.Runs.{book_of, made_by};
 ghost use Rattle.inspection.specs.Held.{model_of};
 ghost use Rattle.run.specs.Steps.{InBook, LinesGrow, rest_of};
-ghost use Rattle.run.specs.Text.{readable, report, run_text, table_of};
+ghost use Rattle.run.specs.Text.{Appends, readable, report, run_text, table_of};
 
 use crate::books::begin;
 use crate::faults::File;
@@ -36,7 +36,7 @@ fn write_opened<'f>(
 ) -> Result<(), AllocError>
     requires { InBook reader }
     ensures lines { LinesGrow inspection.old inspection.new }
-    ensures text { OnOk result (string_bytes text.new ≡ string_bytes text.old ++ run_text work.now (rest_of reader.entry (model_of inspection.old))) }
+    ensures text { Appends result text.old text.new (run_text work.now (rest_of reader.entry (model_of inspection.old))) }
     ensures left { OnOk result ((model_of inspection.new).lines ≡ made_by work.now (rest_of reader.entry (model_of inspection.old))) }
 {
     let mut run = Run { reader, inspection };
@@ -57,7 +57,7 @@ fn write_run(
     work: &[u8],
     lines: &mut [Line],
 ) -> Result<(), AllocError>
-    ensures text { OnOk result (string_bytes text.new ≡ string_bytes text.old ++ run_text work.now (book_of (length lines.old) (items_of source.Book book.now))) }
+    ensures text { Appends result text.old text.new (run_text work.now (book_of (length lines.old) (items_of source.Book book.now))) }
     ensures table { OnOk result (lines.new ≡ overlay (made_by work.now (book_of (length lines.old) (items_of source.Book book.now))) lines.old) }
 {
     let mut reader = Reader::new(Source::Book, book);

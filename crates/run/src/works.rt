@@ -1,5 +1,5 @@
 // How a work is gone through.
-ghost use Rattle.std.specs.Prelude.{◌≡◌, ◌≤◌, true, ◌++◌, length, is_some, IfOk, string_bytes, OnOk};
+ghost use Rattle.std.specs.Prelude.{◌≡◌, ◌≤◌, true, length, is_some, IfOk, string_bytes, OnOk};
 ghost use Rattle.fields.specs.Shown.{shown_of};
 ghost use Rattle.fields.specs.declared.shapes.Source.TheVariants as source;
 ghost use Rattle.calls.specs.Models.{overlay};
@@ -7,7 +7,7 @@ ghost use Rattle.inspection.specs.Held.{model_of};
 ghost use Rattle.run.specs.Files.{items_of};
 ghost use Rattle.run.specs.Runs.{after_work, work_call};
 ghost use Rattle.run.specs.Steps.{Continues, Did, IsWork, LinesGrow, OneLine, Onward, Written};
-ghost use Rattle.run.specs.Text.{work_text};
+ghost use Rattle.run.specs.Text.{Appends, work_text};
 
 use crate::faults::{File, Refused};
 use crate::outcomes::Outcome;
@@ -77,7 +77,7 @@ impl<'r, 'f, 'l> Run<'r, 'f, 'l> {
 
     // Goes through a work: writes a line for each of its fields, and the verdict.
     pub(crate) fn write_work(&mut self, text: &mut String, work: &'f [u8]) -> Result<(), AllocError>
-        ensures text { OnOk result (string_bytes text.new ≡ string_bytes text.old ++ work_text (model_of self.old.inspection.now) 0 (items_of (source.Work (model_of self.old.inspection.now).indices) work.now)) }
+        ensures text { Appends result text.old text.new (work_text (model_of self.old.inspection.now) 0 (items_of (source.Work (model_of self.old.inspection.now).indices) work.now)) }
         ensures left { OnOk result ((model_of self.new.inspection.now).lines ≡ (after_work (model_of self.old.inspection.now) (items_of (source.Work (model_of self.old.inspection.now).indices) work.now)).lines) }
         ensures lines { LinesGrow self.old.inspection.now self.new.inspection.now }
         ensures borrowed { self.new.inspection.ghost_name ≡ self.old.inspection.ghost_name }
