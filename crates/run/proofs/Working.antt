@@ -1,11 +1,13 @@
 -- The lines after one field of a work. Assumes nothing.
-use Rattle.std.proofs.Common.{ℕ, ◌≤◌, length, Some, None, Option, Result, sym, subst}
+use Rattle.std.proofs.Common.{◌≡◌, ℕ, Some, None, Option, Result}
 use Rattle.clauses.specs.declared.refusals.Refusal.{Refusal}
 use Rattle.calls.specs.Calls.{Call}
-use Rattle.calls.specs.Models.{Model}
-use Rattle.inspection.proofs.Adding.{after_grows}
-use Rattle.run.specs.Steps.{Did}
+use Rattle.calls.specs.Models.{overlay}
+use Rattle.inspection.specs.Held.{model_of}
+use Rattle.inspection.specs.declared.state.Inspection.{Inspection}
+use Rattle.run.specs.Steps.{Did, LinesGrow}
+use Rattle.run.proofs.Continuing.{call_grows}
 
-pub call_grows : (o : Option Call) (x : Result ℕ Refusal) (m m' : Model) → Did o x m m' → length m.lines ≤ length m'.lines
-call_grows None x m m' none = absurd none
-call_grows (Some c) x m m' did = subst (λ w. length m.lines ≤ length w.lines) (sym did.1) (after_grows m c)
+pub field_grows : (o : Option Call) (x : Result ℕ Refusal) (s s' : Inspection) → Did o x (model_of s) (model_of s') → s'.lines.now ≡ overlay (model_of s').lines s.lines.now → s'.lines.ghost_name ≡ s.lines.ghost_name → LinesGrow s s'
+field_grows None x s s' none table lent = absurd none
+field_grows (Some c) x s s' did table lent = call_grows c s s' (record { answer = did.0; after = did.1; table = table; lent = lent })

@@ -1,15 +1,15 @@
-use Rattle.std.proofs.Common.{◌≡◌, ◌+◌, ◌≤◌, length, Some, Ok, Err, refl, sym, ap, ◌∙◌, subst}
+use Rattle.std.proofs.Common.{◌≡◌, ◌+◌, Some, Ok, Err, sym, ap, ◌∙◌, subst}
 use Rattle.std.proofs.lemmas.Result.{err_from_is_err_and}
 use Rattle.clauses.specs.Refusals.{number_of}
 use Rattle.fields.specs.declared.shapes.Source.TheVariants as source
 use Rattle.fields.specs.Parse.{parse, told, shows}
 use Rattle.fields.specs.Shown.{rule}
 use Rattle.inspection.specs.Held.{model_of}
-use Rattle.inspection.proofs.Adding.{after_grows}
 use Rattle.run.specs.Files.{items_from}
 use Rattle.run.specs.Runs.{rules_from, rule_call, stopped}
 use Rattle.run.specs.Steps.{OneRule}
 use Rattle.run.specs.declared.runs.Run.{Run}
+use Rattle.run.proofs.Continuing.{call_grows, read_on}
 use Rattle.run.proofs.Stepping.{found_at, items_at, rule_taken, rule_refused, refused_leaves}
 use Rattle.run.proofs.runs.Run.next_rule.Goals as goal
 use Rattle.run.proofs.runs.Run.next_rule.Goals.{In-Rule}
@@ -19,12 +19,7 @@ shown : (c : In-Rule) → parse source.Book c.args.self.now.reader.bytes.now c.a
 shown c = found_at c.args.self.now.reader _ c.requires.book c.in_ok-field.ensures.value ∙ ap (λ o. told (Ok o) c.next_field.new.self.place) (c.in-Some.is ∙ ap Some c.in-Rule.is)
 
 pub returns-in_err-line-clause-on : goal.returns-in_err-line-clause-on
-returns-in_err-line-clause-on c =
-    let m = model_of c.args.self.now.inspection.now in
-    let same = c.next_field.ensures.same in
-    let no = c.in_err-line.ensures in
-    let grows = subst (λ w. length m.lines ≤ length w.lines) (sym no.after) (after_grows m (rule_call c.in-Rule.kind c.in-Rule.index c.in-Rule.left.now c.in-Rule.right.now)) in
-    record { bytes = same.0; file = same.1; borrowed = refl; lines = record { more = grows; table = no.table; lent = no.lent } }
+returns-in_err-line-clause-on c = read_on c.args.self.now c.next_field.new.self c.take_rule.new.inspection c.next_field.ensures.same (call_grows (rule_call c.in-Rule.kind c.in-Rule.index c.in-Rule.left.now c.in-Rule.right.now) _ _ c.in_err-line.ensures)
 
 pub returns-in_err-line-clause-step : goal.returns-in_err-line-clause-step
 returns-in_err-line-clause-step c =
@@ -41,12 +36,7 @@ returns-in_err-line-clause-step c =
     ∙ ap (λ w. stopped w.lines (number_of c.in_err-line.field-0.0) r.place) (sym unchanged))
 
 pub returns-clause-on : goal.returns-clause-on
-returns-clause-on c =
-    let m = model_of c.args.self.now.inspection.now in
-    let same = c.next_field.ensures.same in
-    let yes = c.in_ok-line.ensures in
-    let grows = subst (λ w. length m.lines ≤ length w.lines) (sym yes.after) (after_grows m (rule_call c.in-Rule.kind c.in-Rule.index c.in-Rule.left.now c.in-Rule.right.now)) in
-    record { bytes = same.0; file = same.1; borrowed = refl; lines = record { more = grows; table = yes.table; lent = yes.lent } }
+returns-clause-on c = read_on c.args.self.now c.next_field.new.self c.take_rule.new.inspection c.next_field.ensures.same (call_grows (rule_call c.in-Rule.kind c.in-Rule.index c.in-Rule.left.now c.in-Rule.right.now) _ _ c.in_ok-line.ensures)
 
 pub returns-clause-step : goal.returns-clause-step
 returns-clause-step c =
