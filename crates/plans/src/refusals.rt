@@ -10,7 +10,7 @@ pub enum PlanRefusal {
 }
 
 impl PlanRefusal {
-    // The number by which the refusal is reported.
+    // The number by which the refusal is reported; each layer has this method, since each promises its own numbers.
     pub fn number(self) -> u8
         ensures { result ≡ plan_number self }
     {
