@@ -73,6 +73,7 @@ fn show_judged<P: Plan>(
 // The rule "sometime 0" for one index, judged with marks of 9: what is used is 0 afterwards.
 fn show_marks(rt: &HostRuntime) -> anyhow::Result<()> {
     let mut lines = [Line::BLANK; 4];
+    // The one opening here is lawful, so nothing is shown for another.
     let Ok(opening) = Opening::check(1, &lines) else {
         return Ok(());
     };

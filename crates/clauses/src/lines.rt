@@ -43,7 +43,7 @@ impl Side {
         let mut places = [Literal(0); PLACES];
         places[..items.len()].copy_from_slice(items);
         Some(Side {
-            // Narrowed without loss, as the proof shows.
+            // `as`, since the proof shows that nothing is lost: `try_from` would add a failure to unwrap.
             count: items.len() as u8,
             places,
         })

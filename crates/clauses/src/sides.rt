@@ -33,7 +33,7 @@ pub(crate) fn joined(a: &[Literal], b: &[Literal]) -> Option<Side>
     let mut places = [Literal(0); PLACES];
     let count = ordered::join(a, b, &mut places)?;
     Some(Side {
-        // Narrowed without loss, as the proof shows.
+        // `as`, since the proof shows that nothing is lost: `try_from` would add a failure to unwrap.
         count: count as u8,
         places,
     })

@@ -8,7 +8,8 @@ ghost use Rattle.fields.specs.Layouts.{stands, split, counted, begin_of, rule_of
 use crate::flaws::Flaw;
 use crate::shapes::{Field, Source};
 
-// The tag and the value of the field that the bytes begin with, where it is whole.
+// The tag and the value of the field that the bytes begin with, where it is whole. A length is two bytes; its bound is said by itself where
+// it is asked, since a name for it would say no more.
 pub(crate) fn split_field(bytes: &[u8]) -> Option<(u8, &[u8])>
     ensures value { option_map (λ p. (p.0, p.1.now)) result ≡ split bytes.now }
     ensures front { IfSome result (λ p. bytes.now ≡ written p.0 p.1.now ++ drop (3 + length p.1.now) bytes.now) }

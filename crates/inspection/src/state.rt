@@ -7,6 +7,7 @@ use crate::waits::Waits;
 use clauses::Line;
 
 // The first `made` lines of the table are made; those beyond are the caller's.
+// `room` too: the table may be longer than was checked, and it is kept whole, since every line of it is promised.
 // A count beside the table, since the table is the caller's memory, and no byte beyond the count may change.
 // No `Model`, since its value would be these fields again: callers match the lines made with the front of the table.
 #[derive(Drop)]

@@ -41,7 +41,7 @@ impl Waits {
         ensures { Some result ≡ option_map wait_literal (place_of (given_out self.now) wanted) }
     {
         let place = self.place(wanted).unwrap();
-        // Narrowed without loss, as the proof shows.
+        // `as`, since the proof shows that nothing is lost: `try_from` would add a failure to unwrap.
         Literal(2048 + 2 * place as u16)
     }
 

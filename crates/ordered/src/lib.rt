@@ -113,6 +113,7 @@ pub fn join<T: Ord + Copy>(a: &[T], b: &[T], out: &mut [T]) -> Option<usize>
     if (Union { a, b }).nth(out.len()).is_some() {
         return None;
     }
+    // `enumerate` and `next`, since a zip would not tell how many are written.
     let mut union = Union { a, b };
     for (count, place) in out.iter_mut().enumerate() {
         let Some(first) = union.next() else {

@@ -62,7 +62,7 @@ impl<'a> Plan for TablePlan<'a> {
         if state >= self.states {
             return 0;
         }
-        // Narrowed without loss, as the proof shows.
+        // `as`, since the proof shows that nothing is lost: `try_from` would add a failure to unwrap.
         (self.moves_before(state + 1) - self.moves_before(state)) as u16
     }
 

@@ -110,7 +110,8 @@ impl<'a> TablePlan<'a> {
     }
 }
 
-// The first cause against a ring. No part is shared with the tables: a cause of the order goes before every cause of the range.
+// The first cause against a ring, given one by one as the call that fills takes it. No part is shared with the tables: a cause of the
+// order goes before every cause of the range.
 fn check_ring(states: u16, indices: u8, back: u16, truths: &[Pair]) -> Result<(), PlanRefusal>
     ensures { FirstOr plan_number (ring_causes states indices back truths.now) (λ _. ⊤) result }
 {

@@ -14,7 +14,7 @@ use clauses::{Line, Literal, Refusal};
 use fields::{Field, Reader};
 use inspection::{Inspection, Opening};
 
-// Takes in a rule whose sides are parts of the input.
+// Takes in a rule whose sides are parts of the input; its parts come one by one, as the field shows them and the call takes them.
 fn take_rule(
     inspection: &mut Inspection,
     kind: u8,

@@ -9,12 +9,14 @@ use fields::ReaderFault;
 use plans::PlanRefusal;
 use std::fmt;
 
+// Not a `Source`: a fault names the file alone, and has no count of indices.
 #[derive(Debug, Clone, Copy, PartialEq, Eq)]
 pub enum File {
     Book,
     Work,
 }
 
+// The cases of `Refused` without what they carry: a fault is told by a number and its layer.
 #[derive(Debug, Clone, Copy, PartialEq, Eq)]
 pub enum Layer {
     Reader,

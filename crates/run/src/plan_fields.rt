@@ -20,7 +20,7 @@ fn judge<P: Plan>(inspection: &Inspection, plan: &P) -> Result<Judgement, PlanRe
     inspection.judge(plan, &mut marks)
 }
 
-// Judges the table plan of a field; the lists are parts of the input.
+// Judges the table plan of a field; its parts come one by one, as the field shows them and the call takes them.
 pub(crate) fn judge_table(
     inspection: &Inspection,
     states: u16,
@@ -39,7 +39,7 @@ pub(crate) fn judge_table(
     judge(inspection, &plan)
 }
 
-// Judges the ring of a field.
+// Judges the ring of a field, whose parts come one by one too.
 pub(crate) fn judge_ring(
     inspection: &Inspection,
     states: u16,
