@@ -1,13 +1,13 @@
 // How a work is gone through.
-ghost use Rattle.std.specs.Prelude.{◌≡◌, ◌≤◌, true, length, is_some, IfOk, string_bytes, OnOk};
+ghost use Rattle.std.specs.Prelude.{◌≡◌, ℕ, ◌≤◌, true, ◌++◌, length, is_some, IfOk, string_bytes, OnOk};
 ghost use Rattle.fields.specs.Shown.{shown_of};
 ghost use Rattle.fields.specs.declared.shapes.Source.TheVariants as source;
 ghost use Rattle.calls.specs.Models.{overlay};
 ghost use Rattle.inspection.specs.Held.{model_of};
 ghost use Rattle.run.specs.Files.{items_of};
 ghost use Rattle.run.specs.Runs.{after_work, work_call};
-ghost use Rattle.run.specs.Steps.{Continues, Did, IsWork, LinesGrow, OneLine, Onward, Written};
-ghost use Rattle.run.specs.Text.{Appends, work_text};
+ghost use Rattle.run.specs.Steps.{Continues, Did, IsWork, LinesGrow, OneLine, Onward, Written, outcome};
+ghost use Rattle.run.specs.Text.{Appends, answer_text, work_text};
 
 use crate::faults::{File, Refused};
 use crate::outcomes::Outcome;
@@ -39,6 +39,13 @@ fn perform(inspection: &mut Inspection, field: Field) -> Result<usize, Refusal>
     }
 }
 
+// Writes what the field of this number came to, at any offset.
+fn write_outcome(text: &mut String, field: usize, came: Outcome) -> Result<(), AllocError>
+    ensures { OnOk result ((offset : ℕ) → string_bytes text.new ≡ string_bytes text.old ++ answer_text field offset (outcome came)) }
+{
+    writeln!(text, "{field} {came}")
+}
+
 impl<'r, 'f, 'l> Run<'r, 'f, 'l> {
     // Makes the call of the next field of the work, and answers the line that it made; none at the end.
     fn next_line(&mut self) -> Result<Option<usize>, Refused>
@@ -63,10 +70,7 @@ impl<'r, 'f, 'l> Run<'r, 'f, 'l> {
         let offset = self.place();
         match self.next_line() {
             Ok(None) => return Ok(false),
-            Ok(Some(line)) => {
-                let outcome = Outcome::Line(line);
-                writeln!(text, "{number} {outcome}")?
-            }
+            Ok(Some(line)) => write_outcome(text, number, Outcome::Line(line))?,
             Err(refused) => {
                 let fault = refused.at(File::Work, offset);
                 writeln!(text, "{number} {fault}")?
