@@ -7,7 +7,7 @@ ghost use Rattle.run.specs.Runs.{rule_call};
 ghost use Rattle.run.specs.Steps.{AllRules, Begun, Continues, InBook, OneRule, Onward};
 
 use crate::faults::{Fault, File, Refused};
-use crate::parts::elements;
+use crate::parts::read_elements;
 use crate::runs::Run;
 use arrayvec::ArrayVec;
 use clauses::{Line, Literal, Refusal};
@@ -25,10 +25,12 @@ fn take_rule(
     requires short { (length left.now ≤ 510) × (length right.now ≤ 510) }
     ensures { Does (told_line result) (rule_call kind index left.now right.now) inspection.old inspection.new }
 {
-    let left: ArrayVec<Literal, 255> = elements(left);
-    let right: ArrayVec<Literal, 255> = elements(right);
+    let mut on_left: ArrayVec<Literal, 255> = ArrayVec::new();
+    let mut on_right: ArrayVec<Literal, 255> = ArrayVec::new();
+    read_elements(left, &mut on_left);
+    read_elements(right, &mut on_right);
     // The kind stays a number: the call refuses one that names no kind.
-    inspection.rule(kind, index, &left, &right)
+    inspection.rule(kind, index, &on_left, &on_right)
 }
 
 // Reads the begin of a book, and checks what it opens.

@@ -1,5 +1,5 @@
 // From the parts of the input that a field shows to what a call takes.
-ghost use Rattle.std.specs.Prelude.{◌≡◌, ℕ, ◌/◌, ◌≤◌, List, length};
+ghost use Rattle.std.specs.Prelude.{◌≡◌, ℕ, ◌/◌, ◌≤◌, List, [], length};
 ghost use Rattle.run.specs.Elements.{HeldInTurn, literal_of, literals_in_turn, number_of, numbers_in_turn, pair_of, pairs_in_turn};
 ghost use Rattle.run.specs.Parts.{literals_of, numbers_of, pairs_of};
 
@@ -65,17 +65,18 @@ impl Element<4> for Pair {
     }
 }
 
-// The elements that a part holds; bytes too few for another are left over.
-pub(crate) fn elements<T: Element<SIZE>, const SIZE: usize, const ROOM: usize>(
+// Reads the elements that a part holds into a vector that has none; bytes too few for another are left over.
+// The vector is lent: one that is answered is copied twice, for each side of a rule.
+pub(crate) fn read_elements<T: Element<SIZE>, const SIZE: usize, const ROOM: usize>(
     part: &[u8],
-) -> ArrayVec<T, ROOM>
-    requires { length part.now / SIZE ≤ ROOM }
-    ensures { result.items ≡ T.all_of part.now }
+    elements: &mut ArrayVec<T, ROOM>,
+)
+    requires none { elements.old.items ≡ [] }
+    requires room { length part.now / SIZE ≤ ROOM }
+    ensures { elements.new.items ≡ T.all_of part.now }
 {
     let (chunks, _) = part.as_chunks::<SIZE>();
-    let mut elements = ArrayVec::new();
     for bytes in chunks {
         elements.push(T::of_bytes(bytes));
     }
-    elements
 }

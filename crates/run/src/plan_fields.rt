@@ -5,7 +5,7 @@ ghost use Rattle.inspection.specs.Told.{told_judgement};
 ghost use Rattle.inspection.specs.Held.{model_of};
 ghost use Rattle.run.specs.Runs.{reply, ring_request, table_request};
 
-use crate::parts::elements;
+use crate::parts::read_elements;
 use arrayvec::ArrayVec;
 use inspection::Inspection;
 use judging::Judgement;
@@ -31,11 +31,14 @@ pub(crate) fn judge_table(
     requires short { (length targets.now ≤ 65535) × (length truths.now ≤ 65535) × (length moves.now ≤ 65535) }
     ensures { told_judgement result ≡ reply (model_of inspection.now) (table_request (model_of inspection.now).indices states targets.now truths.now moves.now) }
 {
-    let targets: ArrayVec<u16, 32767> = elements(targets);
-    let truths: ArrayVec<Pair, 16383> = elements(truths);
-    let moves: ArrayVec<Pair, 16383> = elements(moves);
+    let mut led: ArrayVec<u16, 32767> = ArrayVec::new();
+    let mut held: ArrayVec<Pair, 16383> = ArrayVec::new();
+    let mut free: ArrayVec<Pair, 16383> = ArrayVec::new();
+    read_elements(targets, &mut led);
+    read_elements(truths, &mut held);
+    read_elements(moves, &mut free);
     let mut plan = TablePlan::new();
-    plan.fill(states, inspection.indices(), &targets, &truths, &moves)?;
+    plan.fill(states, inspection.indices(), &led, &held, &free)?;
     judge(inspection, &plan)
 }
 
@@ -49,8 +52,9 @@ pub(crate) fn judge_ring(
     requires short { length truths.now ≤ 65535 }
     ensures { told_judgement result ≡ reply (model_of inspection.now) (ring_request (model_of inspection.now).indices states back truths.now) }
 {
-    let truths: ArrayVec<Pair, 16383> = elements(truths);
+    let mut held: ArrayVec<Pair, 16383> = ArrayVec::new();
+    read_elements(truths, &mut held);
     let mut plan = Ring::new();
-    plan.fill(states, inspection.indices(), back, &truths)?;
+    plan.fill(states, inspection.indices(), back, &held)?;
     judge(inspection, &plan)
 }

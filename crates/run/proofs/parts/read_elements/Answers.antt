@@ -1,7 +1,7 @@
 use Rattle.std.proofs.Common.{map, ap, ◌∙◌, arith}
 use Rattle.std.proofs.lemmas.List.{take_all}
 use Rattle.run.proofs.Reading.{chunks_read}
-use Rattle.run.proofs.parts.elements.Goals as goal
+use Rattle.run.proofs.parts.read_elements.Goals as goal
 
 pub as_chunks-requires : goal.as_chunks-requires
 as_chunks-requires g c = let h = g.met.T.Element.in_turn in (omega (arith, h.few), h.some)
