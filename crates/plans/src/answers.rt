@@ -22,16 +22,16 @@ fn listed(truths: &[Pair], state: u16, atom: u16) -> bool
 }
 
 impl<'a> TablePlan<'a> {
-    // How many free moves lead from the states below a state.
-    fn moves_before(&self, state: u16) -> usize
+    // How many free moves come before the one from a state to another.
+    fn moves_before(&self, from: u16, to: u16) -> usize
         ensures within { result ≤ length self.now.moves.now }
-        ensures value { result ≡ count_below pair_rank self.now.moves.now (pair state 0) }
+        ensures value { result ≡ count_below pair_rank self.now.moves.now (pair from to) }
     {
-        let first = Pair {
-            first: state,
-            second: 0,
+        let step = Pair {
+            first: from,
+            second: to,
         };
-        lower(self.moves, &first)
+        lower(self.moves, &step)
     }
 }
 
@@ -63,14 +63,14 @@ impl<'a> Plan for TablePlan<'a> {
             return 0;
         }
         // `as`, since the proof shows that nothing is lost: `try_from` would add a failure to unwrap.
-        (self.moves_before(state + 1) - self.moves_before(state)) as u16
+        (self.moves_before(state + 1, 0) - self.moves_before(state, 0)) as u16
     }
 
     fn free_target(&self, state: u16, number: u16) -> u16 {
         if state >= self.states {
             return 0;
         }
-        let place = self.moves_before(state) + usize::from(number);
+        let place = self.moves_before(state, 0) + usize::from(number);
         match self.moves.get(place) {
             Some(step) if step.first == state => step.second,
             _ => 0,
